@@ -1,0 +1,4 @@
+pub mod Refusals
+pub mod Sets
+pub mod Facts
+pub mod Laws

@@ -1,0 +1,11 @@
+-- The bytes of a sheet. Past its end every byte reads as 0.
+use Prim.Native.Nat.{ℕ, _+_, _*_}
+use mathlib.Core.List.{List}
+use lib.ListN.{getD}
+
+abbrev pub byte : List ℕ → ℕ → ℕ
+byte bs p = getD bs p 0
+
+-- two bytes, the high one first
+abbrev pub word : List ℕ → ℕ → ℕ
+word bs p = byte bs p * 256 + byte bs (p + 1)

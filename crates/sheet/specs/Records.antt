@@ -1,0 +1,40 @@
+-- What is asked of a record as such: its kind, and whether its body is whole.
+use Prim.Native.Nat.{ℕ, _+_}
+use mathlib.Core.Bool.{Bool, true, false, not, cond}
+use mathlib.Core.List.{List, [], _∷_}
+use mathlib.Core.Path.{_≡_}
+use lib.Dec.{eqb, leb}
+use lib.ListN.{length}
+use Rattle.std.specs.declared.option.Option.{Option}
+use Rattle.std.specs.declared.option.Option.the-variants.{Some, None}
+use Rattle.std.specs.Options.{isSome}
+use Rattle.std.specs.declared.result.Result.{Result}
+use Rattle.std.specs.declared.result.Result.the-variants.{Ok, Err}
+use Rattle.sheet.specs.declared.fault.SheetFault.{SheetFault}
+use Rattle.protocol.specs.declared.refusal.Layer.the-variants.{Sheet}
+use Rattle.protocol.specs.Refusals.{Question, ask}
+use Rattle.sheet.specs.declared.kind.Kind.{Kind}
+use Rattle.sheet.specs.Bytes.{byte}
+use Rattle.sheet.specs.Kinds.{kind-of, body-length, is-header}
+
+abbrev pub begins-sheet : Option Kind → Bool
+begins-sheet None = false
+begins-sheet (Some k) = is-header k
+
+-- the record of that kind at p lies within the sheet
+abbrev pub whole : List ℕ → ℕ → Option Kind → Bool
+whole bs p None = false
+whole bs p (Some k) = leb (p + 1 + body-length k) (length bs)
+
+-- the first record has to be a header, and a later one must not; its kind has to be known, and its body whole
+abbrev pub record-questions : List ℕ → ℕ → List Question
+record-questions bs p =
+    cond (eqb p 0) (ask 21 Sheet (begins-sheet (kind-of (byte bs p)))) (ask 22 Sheet (not (begins-sheet (kind-of (byte bs p)))))
+    ∷ ask 23 Sheet (isSome (kind-of (byte bs p)))
+    ∷ ask 24 Sheet (whole bs p (kind-of (byte bs p)))
+    ∷ []
+
+-- a record that is not refused has the kind that its letter stands for
+abbrev pub Has-kind : Result Kind SheetFault → Option Kind → Type 0
+Has-kind (Ok k) o = o ≡ Some k
+Has-kind (Err e) o = Unit {0}

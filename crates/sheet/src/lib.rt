@@ -1,0 +1,6 @@
+//! Sheets and their listings: the records of a sheet, what they are refused for, and the lines that they give.
+pub mod fault;
+pub mod kind;
+pub mod line;
+pub mod listing;
+pub mod record;
