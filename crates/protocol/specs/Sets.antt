@@ -1,6 +1,6 @@
 -- Sets of processes. A process is a number, and a set says of each number whether it is a member.
 use Prim.Native.Nat.{ℕ, _<_, _/_, _%_, _^_}
-use mathlib.Core.Bool.{Bool, true, false, not, _&&_}
+use mathlib.Core.Bool.{Bool, true, false, not, _&&_, _||_}
 use mathlib.Core.Path.{_≡_}
 use lib.Dec.{eqb}
 
@@ -9,6 +9,14 @@ Set = ℕ → Bool
 
 abbrev pub empty : Set
 empty i = false
+
+-- the members of a, and process i
+abbrev pub joined : Set → ℕ → Set
+joined a i j = eqb i j || a j
+
+-- the members of a and those of b
+abbrev pub either : Set → Set → Set
+either a b i = a i || b i
 
 -- the members of a that are not in b
 abbrev pub less : Set → Set → Set

@@ -1,0 +1,4 @@
+pub mod Marking
+pub mod Arithmetic
+pub mod Fairness
+pub mod Lawful

@@ -1,0 +1,4 @@
+pub mod Marks
+pub mod Weights
+pub mod Polls
+pub mod Refused
