@@ -4,7 +4,7 @@ ghost use Rattle.franchise.specs.Refused.{refusal-of};
 use protocol::refusal::Layer;
 use protocol::refusal::Refusal;
 
-#[derive(Clone, Copy, PartialEq, Eq, Debug)]
+#[derive(Clone, Copy)]
 pub enum FranchiseFault {
     /// the number of processes is not from 1 to 16
     Size,

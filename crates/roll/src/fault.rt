@@ -4,7 +4,7 @@ ghost use Rattle.roll.specs.Refused.{refusal-of};
 use protocol::refusal::Layer;
 use protocol::refusal::Refusal;
 
-#[derive(Clone, Copy, PartialEq, Eq, Debug)]
+#[derive(Clone, Copy)]
 pub enum RollFault {
     /// a process is not below the number of processes
     Process,

@@ -1,1 +1,4 @@
+pub mod Admitting
+pub mod Judging
+pub mod Naming
 pub mod Texts

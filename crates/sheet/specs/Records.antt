@@ -2,15 +2,11 @@
 use Prim.Native.Nat.{ℕ, _+_}
 use mathlib.Core.Bool.{Bool, true, false, not, cond}
 use mathlib.Core.List.{List, [], _∷_}
-use mathlib.Core.Path.{_≡_}
 use lib.Dec.{eqb, leb}
 use lib.ListN.{length}
 use Rattle.std.specs.declared.option.Option.{Option}
 use Rattle.std.specs.declared.option.Option.the-variants.{Some, None}
 use Rattle.std.specs.Options.{isSome}
-use Rattle.std.specs.declared.result.Result.{Result}
-use Rattle.std.specs.declared.result.Result.the-variants.{Ok, Err}
-use Rattle.sheet.specs.declared.fault.SheetFault.{SheetFault}
 use Rattle.protocol.specs.declared.refusal.Layer.the-variants.{Sheet}
 use Rattle.protocol.specs.Refusals.{Question, ask}
 use Rattle.sheet.specs.declared.kind.Kind.{Kind}
@@ -21,10 +17,14 @@ abbrev pub begins-sheet : Option Kind → Bool
 begins-sheet None = false
 begins-sheet (Some k) = is-header k
 
--- the record of that kind at p lies within the sheet
+-- where a record of that kind at p ends
+abbrev pub end-of : ℕ → Option Kind → ℕ
+end-of p None = p + 1
+end-of p (Some k) = p + 1 + body-length k
+
+-- the record at p lies within the sheet
 abbrev pub whole : List ℕ → ℕ → Option Kind → Bool
-whole bs p None = false
-whole bs p (Some k) = leb (p + 1 + body-length k) (length bs)
+whole bs p k = leb (end-of p k) (length bs)
 
 -- the first record has to be a header, and a later one must not; its kind has to be known, and its body whole
 abbrev pub record-questions : List ℕ → ℕ → List Question
@@ -33,8 +33,3 @@ record-questions bs p =
     ∷ ask 23 Sheet (isSome (kind-of (byte bs p)))
     ∷ ask 24 Sheet (whole bs p (kind-of (byte bs p)))
     ∷ []
-
--- a record that is not refused has the kind that its letter stands for
-abbrev pub Has-kind : Result Kind SheetFault → Option Kind → Type 0
-Has-kind (Ok k) o = o ≡ Some k
-Has-kind (Err e) o = Unit {0}

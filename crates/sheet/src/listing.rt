@@ -1,13 +1,25 @@
 //! The listing of a sheet: its lines, and their text.
+ghost use Prim.Native.Nat.{_+_};
+ghost use mathlib.Core.List.{List};
 ghost use mathlib.Core.Path.{_≡_};
 ghost use Rattle.std.specs.Of.String.{string-bytes};
 ghost use Rattle.std.specs.Of.Vec.{vec-items};
-ghost use Rattle.std.specs.Vec.{made};
+ghost use Rattle.std.specs.Vec.{made, listOf};
+ghost use Rattle.std.specs.declared.option.Option.the-variants.{Some};
+ghost use Rattle.sheet.specs.declared.line.Line.{Line as LineOf};
+ghost use Rattle.sheet.specs.Bytes.{byte};
+ghost use Rattle.sheet.specs.Faults.{either-lines};
+ghost use Rattle.sheet.specs.Kinds.{kind-of};
 ghost use Rattle.sheet.specs.Lines.{lines-text};
-ghost use Rattle.sheet.specs.Listing.{listing};
+ghost use Rattle.sheet.specs.Listing.{listing, admitted, later};
+use super::fault::PlacedFault;
 use super::fault::SheetFault;
+use super::fault::placed;
+use super::header::Header;
+use super::kind::Kind;
 use super::line::Line;
 use super::line::text;
+use super::record::byte_at;
 use super::record::kind_at;
 use std::alloc::AllocError;
 use std::alloc::Global;
@@ -23,22 +35,49 @@ pub fn listing_text(heap: Global, sheet: &[u8]) -> Result<String, AllocError>
     text(heap, lines.as_slice())
 }
 
-/// The lines of a sheet.
 fn lines_of(heap: Global, sheet: &[u8]) -> Result<Vec<Line>, AllocError>
     ensures { λ r. ⌜ made r (λ v. vec-items v ≡ listing (now (sheet .entry))) ⌝ }
 {
     let mut lines = Vec::new(heap);
-    if sheet.len() > LONGEST {
-        let refusal = SheetFault::TooLong.refusal();
-        lines.push(Line::Fault {
-            place: LONGEST,
-            refusal,
-        })?;
-        return Ok(lines);
-    }
-    if let Err(fault) = kind_at(sheet, 0) {
-        let refusal = fault.refusal();
-        lines.push(Line::Fault { place: 0, refusal })?;
+    match admit(sheet) {
+        Err(fault) => lines.push(fault.line())?,
+        Ok(kind) => {
+            let letter = char::from(byte_at(sheet, 0));
+            lines.push(Line::Done { letter, place: 0 })?;
+            if let Some(line) = line_at(sheet, 1 + kind.body_length()) {
+                lines.push(line)?;
+            }
+        }
     }
     Ok(lines)
+}
+
+/// The kind of the header, if the sheet is short enough and its header is good.
+fn admit(sheet: &[u8]) -> Result<Kind, PlacedFault>
+    ensures lines { λ r. ⌜ ((ls : List LineOf) → either-lines r ls ≡ admitted (now (sheet .entry)) ls) ⌝ }
+    ensures kind { λ r. ⌜ made r (λ k. kind-of (byte (now (sheet .entry)) 0) ≡ Some k) ⌝ }
+{
+    if sheet.len() > LONGEST {
+        return Err(PlacedFault {
+            place: LONGEST,
+            fault: SheetFault::TooLong,
+        });
+    }
+    let (kind, header) = placed(0, Header::read(sheet))?;
+    placed(0, header.judge())?;
+    Ok(kind)
+}
+
+/// The line at a place after the header, if one is known there.
+fn line_at(sheet: &[u8], place: usize) -> Option<Line>
+    ensures { λ r. ⌜ listOf r ≡ later (now (sheet .entry)) place ⌝ }
+{
+    let length = sheet.len();
+    if place >= length {
+        return Some(Line::End { length });
+    }
+    match placed(place, kind_at(sheet, place)) {
+        Err(fault) => Some(fault.line()),
+        Ok(_) => None,
+    }
 }

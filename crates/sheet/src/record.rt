@@ -1,27 +1,33 @@
 //! Reading a record: its bytes, its kind, and whether it is whole.
 ghost use mathlib.Core.Path.{_≡_};
-ghost use Prim.Native.Nat.{_+_, _<_, _^_};
+ghost use Prim.Native.Nat.{_<_, _^_};
 ghost use Rattle.sheet.specs.Bytes.{byte, word};
-ghost use Rattle.sheet.specs.Faults.{refused};
-ghost use Rattle.sheet.specs.Kinds.{kind-of, body-length};
-ghost use Rattle.sheet.specs.Records.{record-questions, begins-sheet, Has-kind};
-ghost use Rattle.protocol.specs.Refusals.{first-no};
-ghost use lib.Dec.{leb};
-ghost use lib.ListN.{length};
+ghost use Rattle.sheet.specs.Faults.{refusal-of};
+ghost use Rattle.sheet.specs.Kinds.{kind-of};
+ghost use Rattle.sheet.specs.Records.{record-questions, begins-sheet, whole};
+ghost use Rattle.std.specs.declared.option.Option.the-variants.{Some};
+ghost use Rattle.protocol.specs.Refusals.{answer, told};
 use super::fault::SheetFault;
 use super::kind::Kind;
 
 /// The byte at a place, or 0 past the sheet's end.
-pub fn byte_at(sheet: &[u8], place: usize) -> u8
+pub(crate) fn byte_at(sheet: &[u8], place: usize) -> u8
     ensures { λ r. ⌜ r ≡ byte (now (sheet .entry)) place ⌝ }
 {
     if place < sheet.len() { sheet[place] } else { 0 }
 }
 
+/// The two bytes from a place on, the high one first.
+pub(crate) fn word_at(sheet: &[u8], place: usize) -> u16
+    requires { ⌜ place < 2 ^ 32 ⌝ }
+    ensures { λ r. ⌜ r ≡ word (now (sheet .entry)) place ⌝ }
+{
+    u16::from_be_bytes([byte_at(sheet, place), byte_at(sheet, place + 1)])
+}
+
 /// The kind of the record at a place, if the record may stand there and is whole.
 pub fn kind_at(sheet: &[u8], place: usize) -> Result<Kind, SheetFault>
-    ensures answer { λ r. ⌜ refused r ≡ first-no (record-questions (now (sheet .entry)) place) ⌝ }
-    ensures kind { λ r. ⌜ Has-kind r (kind-of (byte (now (sheet .entry)) place)) ⌝ }
+    ensures { λ r. ⌜ told Some refusal-of r ≡ answer (record-questions (now (sheet .entry)) place) (kind-of (byte (now (sheet .entry)) place)) ⌝ }
 {
     let kind = Kind::of(char::from(byte_at(sheet, place)));
     let header = begins_sheet(kind);
@@ -50,7 +56,7 @@ fn begins_sheet(kind: Option<Kind>) -> bool
 }
 
 fn is_whole(sheet: &[u8], place: usize, kind: Kind) -> bool
-    ensures { λ r. ⌜ r ≡ leb (place + 1 + body-length kind) (length (now (sheet .entry))) ⌝ }
+    ensures { λ r. ⌜ r ≡ whole (now (sheet .entry)) place (Some kind) ⌝ }
 {
     place < sheet.len() && sheet.len() - place > kind.body_length()
 }

@@ -1,0 +1,91 @@
+-- The header of a sheet, and what is asked of it.
+use Prim.Native.Nat.{ℕ, zero, suc}
+use mathlib.Core.Bool.{Bool, true, false, not, cond, _&&_, _||_}
+use mathlib.Core.List.{List, [], _∷_, _++_}
+use lib.Dec.{leb, ltb}
+use lib.ListN.{take}
+use Rattle.std.specs.declared.option.Option.{Option}
+use Rattle.std.specs.declared.option.Option.the-variants.{Some}
+use Rattle.protocol.specs.declared.refusal.Layer.the-variants as layer
+use Rattle.protocol.specs.Refusals.{Question, ask, in-range}
+use Rattle.protocol.specs.Sets.{Set, bits}
+use Rattle.franchise.specs.Polls.{Poll, heads, votes, facts-of}
+use Rattle.franchise.specs.Refused.{fair, outvotes}
+use Rattle.roll.specs.Views.{Roll}
+use Rattle.sheet.specs.declared.header.Ballot.{Ballot}
+use Rattle.sheet.specs.declared.header.Ballot.the-variants as ballot
+use Rattle.sheet.specs.declared.header.Header.{Header}
+use Rattle.sheet.specs.Bytes.{byte, word, words}
+use Rattle.sheet.specs.declared.kind.Kind.{Kind}
+use Rattle.sheet.specs.Kinds.{is, kind-of}
+
+abbrev pub heads-header : List ℕ → Header
+heads-header bs = record {
+  size = byte bs 1;
+  rounds = byte bs 3;
+  faulty = word bs 4;
+  wire = byte bs 6;
+  ballot = ballot.Heads (byte bs 2);
+}
+
+abbrev pub votes-header : List ℕ → Header
+votes-header bs = record {
+  size = byte bs 1;
+  rounds = byte bs 4;
+  faulty = word bs 5;
+  wire = byte bs 7;
+  ballot = ballot.Votes (word bs 2) (words bs 8 16);
+}
+
+-- what the first record says, if it is a header
+abbrev pub header-at : List ℕ → Header
+header-at bs = cond (is "H" (byte bs 0)) (heads-header bs) (votes-header bs)
+
+-- the kind and the header that a sheet begins with
+abbrev pub first-record : List ℕ → Option Kind × Header
+first-record bs = (kind-of (byte bs 0), header-at bs)
+
+abbrev pub known-kind : Kind × Header → Option Kind × Header
+known-kind x = (Some (x .0), x .1)
+
+-- the votes of n processes; those of others are skipped
+abbrev pub poll-of : ℕ → Ballot → Poll
+poll-of n (ballot.Heads t) = heads n t
+poll-of n (ballot.Votes t vs) = votes (take n vs) t
+
+-- every member below k is below n
+unfoldable pub members-below : ℕ → Set → ℕ → Bool
+members-below n s zero = true
+members-below n s (suc k) = members-below n s k && (not (s k) || ltb k n)
+
+-- whether the processes that are named are below n
+abbrev pub naming-questions : ℕ → ℕ → List Question
+naming-questions n faulty = ask 2 layer.Roll (members-below n (bits faulty) 16) ∷ []
+
+-- whether the roll can be opened, and the faulty processes named on it
+abbrev pub roll-questions : Header → List Question
+roll-questions h =
+    ask 11 layer.Roll (in-range (h .size)) ∷ ask 12 layer.Roll (in-range (h .rounds)) ∷ naming-questions (h .size) (h .faulty)
+
+-- whether the franchise can be made, the number of processes being judged already
+abbrev pub ballot-questions : ℕ → Ballot → List Question
+ballot-questions n (ballot.Heads t) = ask 14 layer.Franchise (outvotes (heads n t)) ∷ []
+ballot-questions n (ballot.Votes t vs) =
+    ask 13 layer.Franchise (fair (take n vs)) ∷ ask 14 layer.Franchise (outvotes (votes (take n vs) t)) ∷ []
+
+-- whether the franchise can be made, and the processes of s are tolerable
+abbrev pub franchise-questions : ℕ → Ballot → Set → List Question
+franchise-questions n b s = ballot-questions n b ++ (ask 16 layer.Run (facts-of (poll-of n b) .tolerable s) ∷ [])
+
+-- the kind of wire, the roll, the franchise, and whether the faulty processes are tolerable
+abbrev pub header-questions : Header → List Question
+header-questions h =
+    ask 25 layer.Sheet (leb (h .wire) 1) ∷ roll-questions h ++ franchise-questions (h .size) (h .ballot) (bits (h .faulty))
+
+-- the roll that a header asks for
+abbrev pub roll-at : Header → Roll
+roll-at h = record { size = h .size; rounds = h .rounds; faulty = h .faulty }
+
+-- a roll with other faulty processes
+abbrev pub all-named : Roll → ℕ → Roll
+all-named r faulty = record { size = r .size; rounds = r .rounds; faulty = faulty }
