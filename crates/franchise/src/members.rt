@@ -34,12 +34,7 @@ impl Members {
     pub fn contains(&self, process: u8) -> bool
         ensures { λ r. ⌜ r ≡ set-of (now (self .entry)) process ⌝ }
     {
-        let at = process as usize;
-        if at < self.marks.len() {
-            self.marks[at]
-        } else {
-            false
-        }
+        process < 16 && self.marks[process as usize]
     }
 
     /// Puts a process into the set. A process from 16 on changes nothing.
@@ -47,9 +42,8 @@ impl Members {
         ensures value { λ _. ⌜ now (self .exit) ≡ with-mark (now (self .entry)) process ⌝ }
         ensures members { λ _. ⌜ set-of (now (self .exit)) ≡ cond (ltb process 16) (joined (set-of (now (self .entry))) process) (set-of (now (self .entry))) ⌝ }
     {
-        let at = process as usize;
-        if at < self.marks.len() {
-            self.marks[at] = true;
+        if process < 16 {
+            self.marks[process as usize] = true;
         }
     }
 

@@ -1,6 +1,6 @@
 //! Reads a sheet from standard input and prints its listing.
-use sheet::listing::LONGEST;
-use sheet::listing::listing_text;
+use lines::listing::LONGEST;
+use lines::listing::listing_text;
 use std::io;
 use std::io::Read;
 

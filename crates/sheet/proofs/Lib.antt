@@ -1,4 +1,2 @@
-pub mod Admitting
 pub mod Judging
 pub mod Naming
-pub mod Texts

@@ -1,8 +1,5 @@
 -- The faults of a sheet: their refusals, and their places.
 use Prim.Native.Nat.{ℕ}
-use mathlib.Core.List.{List, [], _∷_}
-use Rattle.std.specs.declared.option.Option.{Option}
-use Rattle.std.specs.declared.option.Option.the-variants.{Some, None}
 use Rattle.std.specs.declared.result.Result.{Result}
 use Rattle.std.specs.declared.result.Result.the-variants.{Ok, Err}
 use Rattle.protocol.specs.declared.refusal.Layer.the-variants as layer
@@ -12,8 +9,6 @@ use Rattle.roll.specs.Refused as roll
 use Rattle.sheet.specs.declared.fault.SheetFault.{SheetFault}
 use Rattle.sheet.specs.declared.fault.SheetFault.the-variants as fault
 use Rattle.sheet.specs.declared.fault.PlacedFault.{PlacedFault}
-use Rattle.sheet.specs.declared.line.Line.{Line}
-use Rattle.sheet.specs.declared.line.Line.the-variants.{Fault}
 
 -- what comes from a roll or a franchise keeps its number and its layer
 abbrev pub refusal-of : SheetFault → Refusal
@@ -27,16 +22,7 @@ refusal-of (fault.Roll e) = roll.refusal-of e
 refusal-of (fault.Franchise e) = franchise.refusal-of e
 refusal-of fault.Untolerable = record { number = 16; layer = layer.Run }
 
--- the line with which a fault ends a listing
-abbrev pub fault-line : PlacedFault → Line
-fault-line e = Fault (e .place) (refusal-of (e .fault))
-
 -- an answer whose fault stands at p
 abbrev pub at-place : {A : Type 0} → ℕ → Result A SheetFault → Result A PlacedFault
 at-place p (Ok x) = Ok x
 at-place p (Err e) = Err (record { place = p; fault = e })
-
--- the lines that follow an answer: one line for a fault, and else those that are to come
-abbrev pub either-lines : {A : Type 0} → Result A PlacedFault → List Line → List Line
-either-lines (Ok x) ls = ls
-either-lines (Err e) ls = fault-line e ∷ []

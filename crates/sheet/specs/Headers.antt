@@ -37,13 +37,13 @@ votes-header bs = record {
   ballot = ballot.Votes (word bs 2) (words bs 8 16);
 }
 
--- what the first record says, if it is a header
+-- what the first entry says, if it is a header
 abbrev pub header-at : List ℕ → Header
 header-at bs = cond (is "H" (byte bs 0)) (heads-header bs) (votes-header bs)
 
 -- the kind and the header that a sheet begins with
-abbrev pub first-record : List ℕ → Option Kind × Header
-first-record bs = (kind-of (byte bs 0), header-at bs)
+abbrev pub first-entry : List ℕ → Option Kind × Header
+first-entry bs = (kind-of (byte bs 0), header-at bs)
 
 abbrev pub known-kind : Kind × Header → Option Kind × Header
 known-kind x = (Some (x .0), x .1)

@@ -1,4 +1,4 @@
--- The kinds of records, their letters, and how long their bodies are.
+-- The kinds of entries, their letters, and how long their bodies are.
 use Prim.Native.Nat.{ℕ}
 use Prim.Native.String.{String}
 use mathlib.Core.Bool.{Bool, true, false, cond}

@@ -1,7 +1,5 @@
 pub mod Kinds
 pub mod Bytes
-pub mod Records
+pub mod Entries
 pub mod Headers
 pub mod Faults
-pub mod Lines
-pub mod Listing

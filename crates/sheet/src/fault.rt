@@ -1,9 +1,8 @@
 //! Why a sheet is refused.
 ghost use mathlib.Core.Path.{_≡_};
 ghost use Rattle.protocol.specs.declared.refusal.Layer.the-variants.{Sheet as SheetLayer};
-ghost use Rattle.sheet.specs.Faults.{refusal-of, fault-line, at-place};
+ghost use Rattle.sheet.specs.Faults.{refusal-of, at-place};
 ghost use Rattle.sheet.specs.declared.fault.SheetFault.the-variants.{Roll as RollCase, Franchise as FranchiseCase};
-use super::line::Line;
 use franchise::fault::FranchiseFault;
 use protocol::refusal::Layer;
 use protocol::refusal::Refusal;
@@ -13,13 +12,13 @@ use roll::fault::RollFault;
 pub enum SheetFault {
     /// it has more than 32,768 bytes
     TooLong,
-    /// its first record is no header
+    /// its first entry is no header
     FirstKind,
-    /// a later record is a header
+    /// a later entry is a header
     LaterKind,
-    /// a record has no known kind
+    /// an entry has no known kind
     UnknownKind,
-    /// a record's body is not whole
+    /// an entry's body is not whole
     Short,
     /// the header names no kind of wire
     WireByte,
@@ -82,18 +81,6 @@ pub impl From<FranchiseFault> for SheetFault as SheetFromFranchise {
 
     fn from(fault: FranchiseFault) -> SheetFault {
         SheetFault::Franchise(fault)
-    }
-}
-
-impl PlacedFault {
-    /// The line with which it ends a listing.
-    pub fn line(self) -> Line
-        ensures { λ r. ⌜ r ≡ fault-line self ⌝ }
-    {
-        Line::Fault {
-            place: self.place,
-            refusal: self.fault.refusal(),
-        }
     }
 }
 

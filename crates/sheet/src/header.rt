@@ -1,15 +1,15 @@
-//! The header: the first record of a sheet.
+//! The header: the first entry of a sheet.
 ghost use mathlib.Core.Path.{_≡_};
 ghost use Rattle.protocol.specs.Refusals.{answer, told};
 ghost use Rattle.sheet.specs.Bytes.{words};
 ghost use Rattle.sheet.specs.Faults.{refusal-of};
-ghost use Rattle.sheet.specs.Headers.{first-record, known-kind, heads-header, votes-header};
-ghost use Rattle.sheet.specs.Records.{record-questions};
+ghost use Rattle.sheet.specs.Headers.{first-entry, known-kind, heads-header, votes-header};
+ghost use Rattle.sheet.specs.Entries.{entry-questions};
+use super::entry::byte_at;
+use super::entry::kind_at;
+use super::entry::word_at;
 use super::fault::SheetFault;
 use super::kind::Kind;
-use super::record::byte_at;
-use super::record::kind_at;
-use super::record::word_at;
 
 /// How the processes vote.
 #[derive(Clone, Copy)]
@@ -34,7 +34,7 @@ pub struct Header {
 impl Header {
     /// The header of a sheet with its kind, if the sheet begins with a whole one.
     pub fn read(sheet: &[u8]) -> Result<(Kind, Header), SheetFault>
-        ensures { λ r. ⌜ told known-kind refusal-of r ≡ answer (record-questions (now (sheet .entry)) 0) (first-record (now (sheet .entry))) ⌝ }
+        ensures { λ r. ⌜ told known-kind refusal-of r ≡ answer (entry-questions (now (sheet .entry)) 0) (first-entry (now (sheet .entry))) ⌝ }
     {
         let kind = kind_at(sheet, 0)?;
         match kind {

@@ -1,4 +1,4 @@
-//! The kinds of records that a sheet is made of.
+//! The kinds of entries that a sheet is made of.
 ghost use mathlib.Core.Path.{_≡_};
 ghost use Rattle.sheet.specs.Kinds.{kind-of, body-length, is-header};
 
@@ -43,7 +43,7 @@ impl Kind {
         }
     }
 
-    /// Whether such a record begins a sheet.
+    /// Whether such an entry begins a sheet.
     pub fn is_header(self) -> bool
         ensures { λ r. ⌜ r ≡ is-header self ⌝ }
     {

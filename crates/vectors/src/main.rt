@@ -1,5 +1,5 @@
 //! Lists the sheets in data/ whose names standard input has, one to a line.
-use sheet::listing::listing_text;
+use lines::listing::listing_text;
 use std::fs;
 use std::io;
 
