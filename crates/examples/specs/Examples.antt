@@ -22,9 +22,11 @@ pub data Wanted : Type 0 where
   heads : ℕ → ℕ → Wanted
   votes : List ℕ → ℕ → Wanted
 
+-- the four facts, by name
 pub data Fact : Type 0 where
   tolerable believed accepted closing : Fact
 
+-- what an example says
 pub data Example : Type 0 where
   -- the franchise is made
   made : Wanted → Example
@@ -43,25 +45,30 @@ abbrev pub among : List ℕ → Set
 among [] i = false
 among (x ∷ xs) i = eqb i x || among xs i
 
+-- the answer of a franchise with these facts
 abbrev pub says : Fact → Facts → Set → Bool
 says tolerable f = f .tolerable
 says believed f = f .believed
 says accepted f = f .accepted
 says closing f = f .closing
 
+-- it is not refused
 abbrev pub is-made : Result poll.Poll Refusal → Bool
 is-made (Ok p) = true
 is-made (Err r) = false
 
+-- the answer about a set, if the franchise is made
 abbrev pub answer-about : Fact → Set → Result poll.Poll Refusal → Option Bool
 answer-about k s (Ok p) = Some (says k (poll.facts-of p) s)
 answer-about k s (Err r) = None
 
+-- what it means that an example holds
 abbrev pub Holds : Example → Type 0
 Holds (made w) = is-made (result w) ≡ true
 Holds (refused w q l) = result w ≡ Err (record { number = q; layer = l })
 Holds (answers w k s b) = answer-about k (among s) (result w) ≡ Some b
 
+-- all of them
 abbrev pub examples : List Example
 examples =
     answers (heads 4 1) believed (0 ∷ 1 ∷ []) true

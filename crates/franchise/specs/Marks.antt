@@ -18,6 +18,7 @@ nobody = record { marks = replicate 16 false }
 abbrev pub with-mark : Members → ℕ → Members
 with-mark m p = record { marks = set (m .marks) p true }
 
+-- two lists of marks, mark by mark
 abbrev pub either-mark : List Bool → List Bool → List Bool
 either-mark [] ys = []
 either-mark (x ∷ xs) [] = []

@@ -35,19 +35,23 @@ tally p s = record {
   threshold = p .threshold;
 }
 
--- tolerable: at most T votes; believed: at least T + 1; accepted: at least 2 T + 1; closing: all but T at least
+-- a set is tolerable with at most T votes
 abbrev pub tolerable : Tally → Bool
 tolerable t = leb (t .votes) (t .threshold)
 
+-- believed with at least T + 1
 abbrev pub believed : Tally → Bool
 believed t = leb (t .threshold + 1) (t .votes)
 
+-- accepted with at least 2 × T + 1
 abbrev pub accepted : Tally → Bool
 accepted t = leb (2 * t .threshold + 1) (t .votes)
 
+-- closing with at least all votes but T
 abbrev pub closing : Tally → Bool
 closing t = leb (t .total - t .threshold) (t .votes)
 
+-- the facts that the votes give
 abbrev pub facts-of : Poll → Facts
 facts-of p = record {
   n = p .size;

@@ -16,6 +16,7 @@ use Rattle.franchise.specs.declared.fault.FranchiseFault.the-variants as fault
 abbrev pub fair-vote : ℕ → Bool
 fair-vote v = leb 1 v && leb v 1000
 
+-- every vote is
 abbrev pub fair : List ℕ → Bool
 fair [] = true
 fair (v ∷ vs) = fair-vote v && fair vs
@@ -24,13 +25,16 @@ fair (v ∷ vs) = fair-vote v && fair vs
 abbrev pub outvotes : Poll → Bool
 outvotes p = ltb (3 * p .threshold) (whole (p .votes) (p .size))
 
+-- what making heads asks
 abbrev pub heads-questions : ℕ → ℕ → List Question
 heads-questions n t = ask 11 Franchise (in-range n) ∷ ask 14 Franchise (outvotes (heads n t)) ∷ []
 
+-- what making votes asks
 abbrev pub votes-questions : List ℕ → ℕ → List Question
 votes-questions vs t =
     ask 11 Franchise (in-range (length vs)) ∷ ask 13 Franchise (fair vs) ∷ ask 14 Franchise (outvotes (votes vs t)) ∷ []
 
+-- the number and the layer of each fault
 abbrev pub refusal-of : FranchiseFault → Refusal
 refusal-of fault.Size = record { number = 11; layer = Franchise }
 refusal-of fault.Vote = record { number = 13; layer = Franchise }

@@ -6,8 +6,8 @@ ghost use Rattle.franchise.specs.Marks.{set-of};
 ghost use Rattle.franchise.specs.Polls.{heads as heads-poll, tally as tally-of, facts-of};
 ghost use Rattle.franchise.specs.Refused.{heads-questions, refusal-of};
 use super::fault::FranchiseFault;
+use super::laws::Franchise;
 use super::members::Members;
-use super::rule::Franchise;
 use super::tally::Tally;
 use super::tally::Threshold;
 

@@ -8,8 +8,8 @@ ghost use Rattle.franchise.specs.Polls.{votes as votes-poll, table-poll, tally
 ghost use Rattle.franchise.specs.Refused.{fair-vote, fair, votes-questions, refusal-of};
 ghost use Rattle.franchise.specs.Weights.{weight, whole, listed};
 use super::fault::FranchiseFault;
+use super::laws::Franchise;
 use super::members::Members;
-use super::rule::Franchise;
 use super::tally::Tally;
 use super::tally::Threshold;
 

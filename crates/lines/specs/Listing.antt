@@ -16,6 +16,7 @@ use Rattle.sheet.specs.Headers.{header-at, header-questions}
 use Rattle.sheet.specs.Kinds.{kind-of}
 use Rattle.sheet.specs.Entries.{entry-questions, end-of}
 
+-- a refusal at p is one line, and nothing follows it
 abbrev pub faulted : ℕ → Option Refusal → List Line → List Line
 faulted p None ls = ls
 faulted p (Some r) ls = Fault p r ∷ []

@@ -3,6 +3,7 @@ use Prim.Native.Nat.{ℕ}
 use mathlib.Core.Bool.{Bool}
 use Rattle.protocol.specs.Sets.{Set}
 
+-- the facts of a franchise
 pub record Facts : Type 0 where
   -- the processes are those below n
   pub n : ℕ

@@ -47,6 +47,7 @@ Halves f =
     (a faulty : Set) → f .tolerable faulty ≡ true
     → (f .believed (less a faulty) ≡ true) ⊎ (f .believed (less (all-less a) faulty) ≡ true)
 
+-- all seven
 pub record Laws (f : Facts) : Type 0 where
   pub parts : Parts f
   pub growth : Growth f
@@ -55,3 +56,10 @@ pub record Laws (f : Facts) : Type 0 where
   pub others : Others f
   pub shared : Shared f
   pub halves : Halves f
+
+-- what follows from them: only members below n count
+abbrev pub Ignores-others : Facts → Type 0
+Ignores-others f =
+    (a b : Set) → ((i : ℕ) → i < f .n → a i ≡ b i)
+    → (f .tolerable a ≡ f .tolerable b) × (f .believed a ≡ f .believed b)
+    × (f .accepted a ≡ f .accepted b) × (f .closing a ≡ f .closing b)

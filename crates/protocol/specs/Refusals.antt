@@ -18,6 +18,7 @@ pub record Question : Type 0 where
   pub refusal : Refusal
   pub holds : Bool
 
+-- a question by the number and the layer of its refusal
 abbrev pub ask : ℕ → Layer → Bool → Question
 ask q l b = record { refusal = record { number = q; layer = l }; holds = b }
 
@@ -30,6 +31,7 @@ abbrev pub first-no : List Question → Option Refusal
 first-no [] = None
 first-no (q ∷ qs) = cond (q .holds) (first-no qs) (Some (q .refusal))
 
+-- x, unless there is a refusal
 abbrev pub granted : {A : Type 0} → A → Option Refusal → Result A Refusal
 granted x None = Ok x
 granted x (Some r) = Err r
@@ -38,6 +40,7 @@ granted x (Some r) = Err r
 abbrev pub answer : {A : Type 0} → List Question → A → Result A Refusal
 answer qs x = granted x (first-no qs)
 
+-- what is there after a call, unless there is a refusal
 abbrev pub changed : {A : Type 0} → A → A → Option Refusal → A
 changed before after None = after
 changed before after (Some r) = before

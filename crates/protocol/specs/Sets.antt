@@ -4,9 +4,11 @@ use mathlib.Core.Bool.{Bool, true, false, not, _&&_, _||_}
 use mathlib.Core.Path.{_≡_}
 use lib.Dec.{eqb}
 
+-- a set, by membership
 abbrev pub Set : Type 0
 Set = ℕ → Bool
 
+-- no process at all
 abbrev pub empty : Set
 empty i = false
 

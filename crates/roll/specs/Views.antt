@@ -10,9 +10,11 @@ pub record Roll : Type 0 where
   pub rounds : ℕ
   pub faulty : ℕ
 
+-- an open roll as such
 abbrev pub of-open : OpenRoll → Roll
 of-open r = record { size = r .size; rounds = r .rounds; faulty = r .faulty }
 
+-- a sealed one
 abbrev pub of-sealed : SealedRoll → Roll
 of-sealed r = record { size = r .size; rounds = r .rounds; faulty = r .faulty }
 

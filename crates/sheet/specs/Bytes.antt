@@ -4,6 +4,7 @@ use mathlib.Core.List.{List, map}
 use lib.ListN.{getD}
 use Rattle.std.specs.Iters.{counting}
 
+-- the byte at p
 abbrev pub byte : List ℕ → ℕ → ℕ
 byte bs p = getD bs p 0
 

@@ -13,6 +13,7 @@ use Rattle.sheet.specs.declared.kind.Kind.{Kind}
 use Rattle.sheet.specs.Bytes.{byte}
 use Rattle.sheet.specs.Kinds.{kind-of, body-length, is-header}
 
+-- a known kind of header
 abbrev pub begins-sheet : Option Kind → Bool
 begins-sheet None = false
 begins-sheet (Some k) = is-header k

@@ -19,6 +19,7 @@ use Rattle.sheet.specs.Bytes.{byte, word, words}
 use Rattle.sheet.specs.declared.kind.Kind.{Kind}
 use Rattle.sheet.specs.Kinds.{is, kind-of}
 
+-- what a header `H` says
 abbrev pub heads-header : List ℕ → Header
 heads-header bs = record {
   size = byte bs 1;
@@ -28,6 +29,7 @@ heads-header bs = record {
   ballot = ballot.Heads (byte bs 2);
 }
 
+-- what a header `W` says
 abbrev pub votes-header : List ℕ → Header
 votes-header bs = record {
   size = byte bs 1;
@@ -45,6 +47,7 @@ header-at bs = cond (is "H" (byte bs 0)) (heads-header bs) (votes-header bs)
 abbrev pub first-entry : List ℕ → Option Kind × Header
 first-entry bs = (kind-of (byte bs 0), header-at bs)
 
+-- the same, where the kind is known
 abbrev pub known-kind : Kind × Header → Option Kind × Header
 known-kind x = (Some (x .0), x .1)
 

@@ -14,6 +14,7 @@ use Rattle.sheet.specs.declared.kind.Kind.the-variants.{Heads, Votes, Propose,
 abbrev pub is : String → ℕ → Bool
 is letter k = eqb k (getD (codes letter) 0 0)
 
+-- the kind that a letter stands for
 abbrev pub kind-of : ℕ → Option Kind
 kind-of k =
     cond (is "H" k) (Some Heads)
@@ -34,6 +35,7 @@ body-length Plant = 5
 body-length Deliver = 2
 body-length Standing = 1
 
+-- a header is of one of two kinds
 abbrev pub is-header : Kind → Bool
 is-header Heads = true
 is-header Votes = true

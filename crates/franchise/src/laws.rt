@@ -1,7 +1,7 @@
 //! What every franchise means, and the laws that it keeps.
 ghost use mathlib.Core.Path.{_≡_};
 ghost use Rattle.protocol.specs.Facts.{Facts};
-ghost use Rattle.protocol.specs.Laws.{Laws, Parts, Growth, Outside, Remains, Others, Shared, Halves};
+ghost use Rattle.protocol.specs.Laws.{Laws, Ignores-others, Parts, Growth, Outside, Remains, Others, Shared, Halves};
 ghost use Rattle.franchise.specs.Marks.{set-of};
 use super::members::Members;
 
@@ -47,4 +47,9 @@ pub trait Franchise {
 /// Every franchise keeps all seven laws.
 pub fn laws_hold<F: Franchise>(franchise: &F)
     ensures { λ _. ⌜ Laws (F·Franchise .facts (now (franchise .entry))) ⌝ }
+{}
+
+/// Marks in a set at the number of processes or beyond are ignored, by every franchise.
+pub fn others_ignored<F: Franchise>(franchise: &F)
+    ensures { λ _. ⌜ Ignores-others (F·Franchise .facts (now (franchise .entry))) ⌝ }
 {}

@@ -1,4 +1,4 @@
-use Rattle.franchise.proofs.rule.laws_hold.Needs as need
+use Rattle.franchise.proofs.laws.laws_hold.Needs as need
 
 pub returns : need.returns
 returns g c =
