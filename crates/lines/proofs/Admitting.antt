@@ -13,6 +13,7 @@ use Rattle.std.specs.declared.result.Result.the-variants.{Ok, Err}
 use Rattle.protocol.specs.Refusals.{Question, answer, told, first-no}
 use Rattle.protocol.proofs.Asking.{granted-none, refused-some}
 use Rattle.sheet.specs.declared.fault.SheetFault.{SheetFault}
+use Rattle.sheet.specs.declared.fault.PlacedFault.{PlacedFault}
 use Rattle.sheet.specs.declared.header.Header.{Header}
 use Rattle.sheet.specs.declared.kind.Kind.{Kind}
 use Rattle.lines.specs.declared.line.Line.{Line}
@@ -51,11 +52,11 @@ module _
   kind-is = sym (ap (λ (x : Option Kind × Header). x .0) same)
 
   pub judged-lines :
-      (j : Result (Unit {0}) SheetFault) (ls : List Line) → told (λ x. x) refusal-of j ≡ answer (header-questions h) (tt {0})
-      → either-lines (at-place 0 j) ls ≡ admitted bs ls
-  judged-lines j ls e =
+      (j : Result (Unit {0}) SheetFault) → told (λ x. x) refusal-of j ≡ answer (header-questions h) (tt {0})
+      → (q : Result (Unit {0}) PlacedFault) → q ≡ at-place 0 j → (ls : List Line) → either-lines q ls ≡ admitted bs ls
+  judged-lines j e q is ls =
       let is-header : h ≡ header-at bs = ap (λ (x : Option Kind × Header). x .1) same in
       let asked = granted-none (first-no (entry-questions bs 0)) (first-entry bs) (known-kind (k, h)) known .0 in
-      answered-lines 0 (header-questions h) j ls e
+      ap (λ (x : Result (Unit {0}) PlacedFault). either-lines x ls) is ∙ answered-lines 0 (header-questions h) j ls e
       ∙ ap (λ (x : Header). unless 0 (header-questions x) ls) is-header
       ∙ sym (rw (short, asked))

@@ -5,10 +5,10 @@ use native.Mathlib.Nat.{mod-eq-of-lt}
 use native.Mathlib.Omega.{arith}
 use borrow.Author.Needs.{needs}
 use Rattle.std.specs.declared.result.Result.the-variants.{Err}
-use Rattle.protocol.specs.Refusals.{told}
+use Rattle.protocol.specs.Refusals.{told, leaves}
 use Rattle.protocol.specs.Sets.{Set, bits}
-use Rattle.roll.specs.Refused.{refusal-of}
-use Rattle.roll.specs.Views.{of-open}
+use Rattle.roll.specs.Refused.{refusal-of, name-questions}
+use Rattle.roll.specs.Views.{of-open, named}
 use Rattle.sheet.specs.Headers.{all-named, members-below}
 use Rattle.sheet.proofs.Naming.{none-named, passed-over, named-more, named-beyond, all-below}
 use Rattle.sheet.proofs.judge.name_all.Needs as need
@@ -27,9 +27,9 @@ loop-process-again c =
     elim (c .if-contains .came) [
       | then-contains·in-Continue-name w ↦ (
           let told = w .in-Continue-name .ensures tt in
-          let next : of-open (c .if-contains .roll) ≡ of-open (w .name .last .self) = ap of-open (w .roll-is) in
+          let next : of-open (c .if-contains .roll) ≡ leaves (name-questions now i) now (named now i) = ap of-open (w .roll-is) ∙ told .after in
           named-more r f i now (c .loop-process .inv .0) (c .loop-process .inv .1) (sym (w .if-contains .ensures tt ∙ set))
-          (of-open (c .if-contains .roll)) (told .answer) (next ∙ told .after))
+          (of-open (c .if-contains .roll)) (told .answer) next)
       | else-contains w ↦ (
           let next : of-open (c .if-contains .roll) ≡ now = ap of-open (w .roll-is) in
           let p = passed-over r f i now (c .loop-process .inv .0) (c .loop-process .inv .1) (sym (w .if-contains .ensures tt ∙ set)) in
