@@ -1,20 +1,17 @@
 use Prim.Native.Nat.{_<_, _^_}
-use mathlib.Core.Logic.{_≢_}
-use mathlib.Core.Path.{refl}
+use mathlib.Core.Bool.{false}
 use native.Mathlib.Omega.{arith}
-use borrow.Author.Count.{below-more}
 use borrow.Author.Needs.{needs}
-use lib.ListN.{length, length-set}
-use lib.Seq.{getD-set-same, getD-set-other}
+use lib.ListN.{length-set}
+use Rattle.std.proofs.shelf.Edits.{fill-by-more}
+use Rattle.protocol.specs.Sets.{bits}
 use Rattle.franchise.proofs.Marking.{bits-marks}
 use Rattle.franchise.proofs.members.Members.from_bits.Needs as need
 
 pub loop-i-again : need.loop-i-again
 loop-i-again c = (
   simp length-set (c .loop-i .inv .0),
-  below-more _ _
-      (λ k h. let ne : k ≢ c .loop-i .i = omega arith in rw getD-set-other (c .loop-i .inv .1 k h))
-      (let lt : c .loop-i .i < length (c .loop-i .marks) = omega (arith, c .loop-i .inv .0) in rw getD-set-same refl),
+  fill-by-more (bits (c .args .bits)) (c .loop-i .marks) (c .loop-i .i) false (omega arith) (c .loop-i .inv .1),
 )
 
 pub returns : need.returns
