@@ -1,10 +1,10 @@
 -- The seven laws of any franchise by votes whose sum is above three times the threshold.
 use Prim.Native.Nat.{ℕ, _+_, _*_, _<_, _≤_}
-use mathlib.Core.Bool.{Bool, true, false, not, _&&_}
+use mathlib.Core.Bool.{true, not, _&&_}
 use mathlib.Core.Logic.{_⊎_, inl, inr}
 use mathlib.Core.Path.{_≡_}
 use native.Mathlib.Omega.{arith}
-use Rattle.std.proofs.shelf.Tests.{leb-true, le-leb, cases-bool, and-parts, and-from, not-true, not-from-false, cases-lt}
+use Rattle.std.proofs.shelf.Tests.{leb-true, le-leb, cases-bool, and-parts, and-from, not-from-false, cases-lt}
 use Rattle.protocol.specs.Sets.{Set, empty, less, all-less, Within}
 use Rattle.protocol.specs.Laws.{Laws, Parts, Growth, Outside, Remains, Others, Shared, Halves}
 use Rattle.franchise.specs.Weights.{weight, whole}

@@ -25,14 +25,21 @@ fair (v ∷ vs) = fair-vote v && fair vs
 abbrev pub outvotes : Poll → Bool
 outvotes p = ltb (3 * p .threshold) (whole (p .votes) (p .size))
 
+-- what is asked of one vote each
+abbrev pub heads-vote-questions : ℕ → ℕ → List Question
+heads-vote-questions n t = ask 14 Franchise (outvotes (heads n t)) ∷ []
+
+-- what is asked of a list of votes
+abbrev pub listed-vote-questions : List ℕ → ℕ → List Question
+listed-vote-questions vs t = ask 13 Franchise (fair vs) ∷ ask 14 Franchise (outvotes (votes vs t)) ∷ []
+
 -- what making heads asks
 abbrev pub heads-questions : ℕ → ℕ → List Question
-heads-questions n t = ask 11 Franchise (in-range n) ∷ ask 14 Franchise (outvotes (heads n t)) ∷ []
+heads-questions n t = ask 11 Franchise (in-range n) ∷ heads-vote-questions n t
 
 -- what making votes asks
 abbrev pub votes-questions : List ℕ → ℕ → List Question
-votes-questions vs t =
-    ask 11 Franchise (in-range (length vs)) ∷ ask 13 Franchise (fair vs) ∷ ask 14 Franchise (outvotes (votes vs t)) ∷ []
+votes-questions vs t = ask 11 Franchise (in-range (length vs)) ∷ listed-vote-questions vs t
 
 -- the number and the layer of each fault
 abbrev pub refusal-of : FranchiseFault → Refusal

@@ -2,7 +2,7 @@
 ghost use mathlib.Core.Bool.{cond};
 ghost use mathlib.Core.Path.{_≡_};
 ghost use lib.Dec.{ltb};
-ghost use Rattle.protocol.specs.Sets.{Set as ProcessSet, empty as no-process, joined, either, bits as set-bits};
+ghost use Rattle.protocol.specs.Sets.{empty as no-process, joined, either, bits as set-bits};
 ghost use Rattle.franchise.specs.Marks.{set-of, nobody, with-mark, united};
 
 #[derive(Clone, Copy)]

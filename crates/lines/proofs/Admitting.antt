@@ -1,8 +1,8 @@
 -- What follows once a header is read: its line, or the fault that it is judged by.
 use Prim.Native.Nat.{ℕ}
 use mathlib.Core.Bool.{true}
-use mathlib.Core.List.{List, []}
-use mathlib.Core.Path.{_≡_, refl, sym, ap, _∙_}
+use mathlib.Core.List.{List}
+use mathlib.Core.Path.{_≡_, sym, ap, _∙_}
 use lib.Dec.{leb}
 use lib.ListN.{length}
 use native.Mathlib.Omega.{arith}
@@ -31,7 +31,7 @@ placed-yes p (Ok y) x e = cc
 placed-yes p (Err f) x e = let z : _≡_ {A = ℕ} 0 1 = cc in absurd (omega arith)
 
 -- an answer by these questions gives the lines that they leave
-pub answered-lines :
+answered-lines :
     (p : ℕ) (qs : List Question) (j : Result (Unit {0}) SheetFault) (ls : List Line)
     → told (λ x. x) refusal-of j ≡ answer qs (tt {0}) → either-lines (at-place p j) ls ≡ unless p qs ls
 answered-lines p qs (Ok x) ls e = sym (ap (λ o. faulted p o ls) (granted-none _ (tt {0}) x e .0))

@@ -1,8 +1,7 @@
 -- Only the processes that there are count.
-use Prim.Native.Nat.{ℕ, _<_}
 use mathlib.Core.Bool.{Bool, true, false}
 use mathlib.Core.Path.{_≡_, refl, sym, _∙_}
-use Rattle.protocol.specs.Sets.{Set, Within}
+use Rattle.protocol.specs.Sets.{Within}
 use Rattle.protocol.specs.Facts.{Facts}
 use Rattle.protocol.specs.Laws.{Parts, Growth, Ignores-others}
 

@@ -1,15 +1,15 @@
 -- Setting one bit of a number puts one process into the set that it is.
 use Prim.Native.Nat.{ℕ, zero, suc, _+_, _-_, _*_, _/_, _%_, _^_, _<_}
 use mathlib.Core.Bool.{Bool, true, false, cond, _||_}
-use mathlib.Core.Logic.{_⊎_, inl, inr}
-use mathlib.Core.Path.{_≡_, refl, sym, ap, _∙_}
+use mathlib.Core.Logic.{inl, inr}
+use mathlib.Core.Path.{_≡_, refl, ap, _∙_}
 use native.Mathlib.Nat.{div-eq-of-lt, div-self, div-eq-of-eq-mul-right, mod-lt, mod-eq-of-lt, one-mul}
 use native.Mathlib.Omega.{arith}
 use lib.Bits.{bitOr, or-shr, or-mod, shifted-even}
 use lib.Dec.{eqb}
 use lib.Pow.{pow-pos, pow-lt, pow-add}
 use Rattle.std.proofs.shelf.Tests.{cases-order, eq-eqb, ne-eqb}
-use Rattle.protocol.specs.Sets.{Set, bits, joined}
+use Rattle.protocol.specs.Sets.{bits, joined}
 
 -- the power 2 ^ i has the bit i and no other
 power-bit : (i j : ℕ) → 2 ^ i / 2 ^ j % 2 ≡ cond (eqb i j) 1 0

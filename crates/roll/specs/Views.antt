@@ -10,11 +10,11 @@ pub record Roll : Type 0 where
   pub rounds : ℕ
   pub faulty : ℕ
 
--- an open roll as such
+-- what an open roll says
 abbrev pub of-open : OpenRoll → Roll
 of-open r = record { size = r .size; rounds = r .rounds; faulty = r .faulty }
 
--- a sealed one
+-- what a sealed roll says
 abbrev pub of-sealed : SealedRoll → Roll
 of-sealed r = record { size = r .size; rounds = r .rounds; faulty = r .faulty }
 

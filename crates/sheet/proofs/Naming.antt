@@ -1,20 +1,18 @@
 -- Naming the faulty processes of a header one after another.
 use Prim.Native.Nat.{ℕ, zero, suc, _+_, _*_, _/_, _%_, _^_, _<_}
-use mathlib.Core.Bool.{Bool, true, false, not, _&&_, _||_, cond}
-use mathlib.Core.List.{[], _∷_}
-use mathlib.Core.Logic.{_⊎_, inl, inr}
+use mathlib.Core.Bool.{true, false, not, _||_}
+use mathlib.Core.Logic.{inl, inr}
 use mathlib.Core.Path.{_≡_, refl, sym, ap, _∙_}
 use native.Mathlib.Nat.{mod-lt, mod-one, mod-eq-of-lt, one-mul}
-use native.Mathlib.Numerals.{add-one, one-add}
+use native.Mathlib.Numerals.{add-one}
 use native.Mathlib.Omega.{arith}
 use lib.Bits.{bitOr, or-shifted-r}
-use lib.Dec.{eqb, ltb}
+use lib.Dec.{ltb}
 use lib.Pow.{pow-pos, mod-pow-add}
 use Rattle.std.proofs.shelf.Tests.{eqb-true, eqb-false, and-from, and-left, and-right, cases-eq, or-right, or-left, or-from, not-from-true, not-from-false}
 use Rattle.std.specs.declared.result.Result.the-variants.{Ok, Err}
 use Rattle.protocol.specs.declared.refusal.Refusal.{Refusal}
-use Rattle.protocol.specs.declared.refusal.Layer.the-variants.{Roll as RollLayer}
-use Rattle.protocol.specs.Refusals.{answer, leaves, granted}
+use Rattle.protocol.specs.Refusals.{answer, leaves}
 use Rattle.protocol.specs.Sets.{Set, bits}
 use Rattle.protocol.proofs.Asking.{granted-none, refused-some, asked-yes, asked-no}
 use Rattle.roll.specs.Refused.{name-questions}

@@ -1,16 +1,17 @@
 -- The header of a sheet, and what is asked of it.
 use Prim.Native.Nat.{ℕ, zero, suc}
-use mathlib.Core.Bool.{Bool, true, false, not, cond, _&&_, _||_}
+use mathlib.Core.Bool.{Bool, true, not, cond, _&&_, _||_}
 use mathlib.Core.List.{List, [], _∷_, _++_}
 use lib.Dec.{leb, ltb}
 use lib.ListN.{take}
 use Rattle.std.specs.declared.option.Option.{Option}
 use Rattle.std.specs.declared.option.Option.the-variants.{Some}
 use Rattle.protocol.specs.declared.refusal.Layer.the-variants as layer
-use Rattle.protocol.specs.Refusals.{Question, ask, in-range}
+use Rattle.protocol.specs.Refusals.{Question, ask}
 use Rattle.protocol.specs.Sets.{Set, bits}
 use Rattle.franchise.specs.Polls.{Poll, heads, votes, facts-of}
-use Rattle.franchise.specs.Refused.{fair, outvotes}
+use Rattle.franchise.specs.Refused.{heads-vote-questions, listed-vote-questions}
+use Rattle.roll.specs.Refused.{open-questions}
 use Rattle.roll.specs.Views.{Roll}
 use Rattle.sheet.specs.declared.header.Ballot.{Ballot}
 use Rattle.sheet.specs.declared.header.Ballot.the-variants as ballot
@@ -67,20 +68,18 @@ naming-questions n faulty = ask 2 layer.Roll (members-below n (bits faulty) 16) 
 
 -- whether the roll can be opened, and the faulty processes named on it
 abbrev pub roll-questions : Header → List Question
-roll-questions h =
-    ask 11 layer.Roll (in-range (h .size)) ∷ ask 12 layer.Roll (in-range (h .rounds)) ∷ naming-questions (h .size) (h .faulty)
+roll-questions h = open-questions (h .size) (h .rounds) ++ naming-questions (h .size) (h .faulty)
 
--- whether the franchise can be made, the number of processes being judged already
+-- whether the franchise can be made; the roll's questions have judged the number of processes
 abbrev pub ballot-questions : ℕ → Ballot → List Question
-ballot-questions n (ballot.Heads t) = ask 14 layer.Franchise (outvotes (heads n t)) ∷ []
-ballot-questions n (ballot.Votes t vs) =
-    ask 13 layer.Franchise (fair (take n vs)) ∷ ask 14 layer.Franchise (outvotes (votes (take n vs) t)) ∷ []
+ballot-questions n (ballot.Heads t) = heads-vote-questions n t
+ballot-questions n (ballot.Votes t vs) = listed-vote-questions (take n vs) t
 
 -- whether the franchise can be made, and the processes of s are tolerable
 abbrev pub franchise-questions : ℕ → Ballot → Set → List Question
 franchise-questions n b s = ballot-questions n b ++ (ask 16 layer.Run (facts-of (poll-of n b) .tolerable s) ∷ [])
 
--- the kind of wire, the roll, the franchise, and whether the faulty processes are tolerable
+-- refusals 25; 11, 12, 2; 13, 14, 16: the kind of wire, the roll, and the franchise, in which the faulty are tolerable
 abbrev pub header-questions : Header → List Question
 header-questions h =
     ask 25 layer.Sheet (leb (h .wire) 1) ∷ roll-questions h ++ franchise-questions (h .size) (h .ballot) (bits (h .faulty))

@@ -1,4 +1,4 @@
-use mathlib.Core.Path.{_≡_, sym}
+use mathlib.Core.Path.{sym}
 use native.Mathlib.Omega.{arith}
 use Rattle.franchise.specs.Marks.{set-of}
 use Rattle.franchise.specs.Weights.{listed}

@@ -1,5 +1,4 @@
 -- The laws of any votes, at one vote each.
-use Prim.Native.Nat.{_*_, _<_}
 use native.Mathlib.Omega.{arith}
 use Rattle.protocol.specs.Laws.{Laws}
 use Rattle.franchise.specs.Polls.{heads, facts-of}

@@ -1,5 +1,4 @@
 -- The laws of any votes, at those of the table.
-use Prim.Native.Nat.{_*_, _<_}
 use native.Mathlib.Omega.{arith}
 use Rattle.protocol.specs.Laws.{Laws}
 use Rattle.franchise.specs.Polls.{table-poll, facts-of}
