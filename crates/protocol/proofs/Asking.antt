@@ -10,7 +10,7 @@ use Rattle.std.specs.declared.result.Result.the-variants.{Ok, Err}
 use Rattle.protocol.specs.declared.refusal.Refusal.{Refusal}
 use Rattle.protocol.specs.Refusals.{Question, first-no, granted, answer}
 
-none-some : {A : Type 0} (r : Refusal) → _≡_ {A = Option Refusal} None (Some r) → A
+pub none-some : {A : Type 0} (r : Refusal) → _≡_ {A = Option Refusal} None (Some r) → A
 none-some r e = let z : _≡_ {A = ℕ} 0 1 = cc in absurd (omega arith)
 
 -- no question of the first list is answered no

@@ -2,3 +2,16 @@ pub mod Refusals
 pub mod Sets
 pub mod Facts
 pub mod Laws
+pub mod Values
+pub mod Messages
+pub mod Processes
+pub mod Rounds
+pub mod Steps
+pub mod Outcomes
+pub mod Wires
+pub mod Settings
+pub mod Calls
+pub mod Play
+pub mod Histories
+pub mod Promise
+pub mod Companions
