@@ -1,6 +1,6 @@
 -- The worked examples: what each says, when it holds, and the list of all.
 use Prim.Native.Nat.{ℕ}
-use mathlib.Core.Bool.{Bool, true, false, _||_}
+use mathlib.Core.Bool.{Bool, true, false, _||_, cond}
 use mathlib.Core.List.{List, [], _∷_}
 use mathlib.Core.Path.{_≡_}
 use lib.Dec.{eqb}
@@ -11,9 +11,22 @@ use Rattle.std.specs.declared.result.Result.the-variants.{Ok, Err}
 use Rattle.protocol.specs.declared.refusal.Layer.{Layer}
 use Rattle.protocol.specs.declared.refusal.Layer.the-variants.{Franchise}
 use Rattle.protocol.specs.declared.refusal.Refusal.{Refusal}
+use Rattle.protocol.specs.declared.value.Value.{Value}
+use Rattle.protocol.specs.declared.value.Value.the-variants.{Hold, Release}
+use Rattle.protocol.specs.declared.value.Values.{Values}
+use Rattle.protocol.specs.declared.value.Values.the-variants.{Only, Both}
+use Rattle.protocol.specs.declared.payload.Payload.{Payload}
+use Rattle.protocol.specs.declared.payload.Payload.the-variants.{Est, Aux}
+use Rattle.protocol.specs.declared.outcome.Outcome.{Outcome}
+use Rattle.protocol.specs.declared.outcome.Outcome.the-variants.{Close, Idle}
 use Rattle.protocol.specs.Facts.{Facts}
 use Rattle.protocol.specs.Refusals.{answer}
-use Rattle.protocol.specs.Sets.{Set}
+use Rattle.protocol.specs.Sets.{Set, empty}
+use Rattle.protocol.specs.Values.{has}
+use Rattle.protocol.specs.Messages.{code, message}
+use Rattle.protocol.specs.Processes.{Process}
+use Rattle.protocol.specs.Steps.{outcome}
+use Rattle.protocol.specs.Outcomes.{after}
 use Rattle.franchise.specs.Polls as poll
 use Rattle.franchise.specs.Refused.{heads-questions, votes-questions}
 
@@ -26,6 +39,16 @@ pub data Wanted : Type 0 where
 pub data Fact : Type 0 where
   tolerable believed accepted closing : Fact
 
+-- a process in a round, with this estimate and this bin, that has noted AUX from these senders
+pub record Scene : Type 0 where
+  pub round : ℕ
+  pub estimate : Value
+  pub bin : Values
+  -- the senders of AUX {0}, of AUX {1} and of AUX {0, 1}
+  pub hold : List ℕ
+  pub release : List ℕ
+  pub both : List ℕ
+
 -- what an example says
 pub data Example : Type 0 where
   -- the franchise is made
@@ -34,6 +57,10 @@ pub data Example : Type 0 where
   refused : Wanted → ℕ → Layer → Example
   -- the franchise is made, and this is its answer about the set of the processes in the list
   answers : Wanted → Fact → List ℕ → Bool → Example
+  -- a message from one process to another for a round has this code
+  coded : ℕ → ℕ → ℕ → Payload → ℕ → Example
+  -- what the step of a process does that has nothing to send, and its estimate and decision after it
+  steps : Wanted → Scene → Outcome → Value → Option Value → Example
 
 -- what making the franchise answers
 abbrev pub result : Wanted → Result poll.Poll Refusal
@@ -62,11 +89,36 @@ abbrev pub answer-about : Fact → Set → Result poll.Poll Refusal → Option B
 answer-about k s (Ok p) = Some (says k (poll.facts-of p) s)
 answer-about k s (Err r) = None
 
+-- whom the process has noted: for its round, all processes with EST for each value of its bin, and AUX as the scene says
+abbrev pub noted : Scene → Payload → Set
+noted x (Est v) = λ i. has (x .bin) v
+noted x (Aux (Only Hold)) = among (x .hold)
+noted x (Aux (Only Release)) = among (x .release)
+noted x (Aux Both) = among (x .both)
+
+-- the process of a scene: it has sent all that it could, and decided nothing
+abbrev pub process : Scene → Process
+process x = record {
+  round = x .round;
+  estimate = Some (x .estimate);
+  decision = None;
+  sent = λ r p. true;
+  noted = λ r p. cond (eqb r (x .round)) (noted x p) empty;
+}
+
+-- what the step does, and what it leaves, if the franchise is made; there are two rounds
+abbrev pub step-of : Scene → Result poll.Poll Refusal → Option Outcome
+step-of x (Ok p) = Some (outcome (poll.facts-of p) 2 (process x))
+step-of x (Err r) = None
+
 -- what it means that an example holds
 abbrev pub Holds : Example → Type 0
 Holds (made w) = is-made (result w) ≡ true
 Holds (refused w q l) = result w ≡ Err (record { number = q; layer = l })
 Holds (answers w k s b) = answer-about k (among s) (result w) ≡ Some b
+Holds (coded s d r p x) = code (message s d r p) ≡ x
+Holds (steps w x o e d) =
+    (step-of x (result w) ≡ Some o) × (after o (process x) .estimate ≡ Some e) × (after o (process x) .decision ≡ d)
 
 -- all of them
 abbrev pub examples : List Example
@@ -84,4 +136,24 @@ examples =
     ∷ answers (votes (5 ∷ 1 ∷ 1 ∷ 1 ∷ []) 2) tolerable (1 ∷ 2 ∷ []) true
     ∷ answers (votes (5 ∷ 1 ∷ 1 ∷ 1 ∷ []) 2) tolerable (0 ∷ []) false
     ∷ refused (votes (5 ∷ 1 ∷ 1 ∷ 1 ∷ []) 3) 14 Franchise
+    ∷ coded 2 0 1 (Est Release) 4097
+    ∷ coded 1 3 2 (Aux Both) 2503
+    ∷ steps (heads 4 1)
+    (record { round = 1; estimate = Hold; bin = Only Release; hold = []; release = 0 ∷ 1 ∷ 2 ∷ []; both = [] })
+    (Close 1 (Only Release) true) Release (Some Release)
+    ∷ steps (heads 4 1)
+    (record { round = 1; estimate = Release; bin = Only Hold; hold = 0 ∷ 1 ∷ 2 ∷ []; release = []; both = [] })
+    (Close 1 (Only Hold) false) Hold None
+    ∷ steps (heads 4 1)
+    (record { round = 2; estimate = Release; bin = Only Hold; hold = 0 ∷ 1 ∷ 2 ∷ []; release = []; both = [] })
+    (Close 2 (Only Hold) true) Hold (Some Hold)
+    ∷ steps (heads 4 1)
+    (record { round = 1; estimate = Hold; bin = Both; hold = 0 ∷ 1 ∷ []; release = 2 ∷ []; both = [] })
+    (Close 1 Both false) Release None
+    ∷ steps (heads 4 1)
+    (record { round = 1; estimate = Release; bin = Both; hold = 0 ∷ 1 ∷ 2 ∷ []; release = 3 ∷ []; both = [] })
+    (Close 1 (Only Hold) false) Hold None
+    ∷ steps (heads 4 1)
+    (record { round = 1; estimate = Hold; bin = Only Release; hold = []; release = 0 ∷ 1 ∷ []; both = 2 ∷ [] })
+    Idle Hold None
     ∷ []

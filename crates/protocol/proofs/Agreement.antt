@@ -1,5 +1,5 @@
 -- Agreement and validity, from the invariant alone.
-use Prim.Native.Nat.{ℕ, zero, suc, _≤_, _<_}
+use Prim.Native.Nat.{ℕ, zero, suc, _<_}
 use native.Mathlib.Omega.{arith}
 use native.Mathlib.Decide.{decLt}
 use mathlib.Core.Bool.{Bool, true, not}
@@ -9,16 +9,16 @@ use Rattle.std.proofs.shelf.Tests.{and-parts}
 use Rattle.protocol.specs.declared.value.Value.{Value}
 use Rattle.protocol.specs.declared.value.Value.the-variants.{Hold, Release}
 use Rattle.protocol.specs.declared.value.Values.{Values}
-use Rattle.protocol.specs.declared.value.Values.the-variants.{Only, Both}
+use Rattle.protocol.specs.declared.value.Values.the-variants.{Only}
 use Rattle.protocol.specs.declared.payload.Payload.the-variants.{Est, Aux}
 use Rattle.protocol.specs.Sets.{less}
 use Rattle.protocol.specs.Values.{favoured}
 use Rattle.protocol.specs.Rounds.{in-bin, new-estimate}
 use Rattle.protocol.specs.Settings.{Setting, Fair, Correct}
-use Rattle.protocol.specs.Histories.{State, Event, Proposed, Decided}
+use Rattle.protocol.specs.Histories.{State, Event, Proposed}
 use Rattle.protocol.specs.Promise.{Agreement, Validity}
 use Rattle.protocol.proofs.Closing.{Evidence, alone, mixed}
-use Rattle.protocol.proofs.Invariant.{Closes, Entered, by-proposal, by-closing, Held, Own, Between, Invariant}
+use Rattle.protocol.proofs.Invariant.{Closes, Entered, by-proposal, by-closing, Held, Invariant}
 use Rattle.protocol.proofs.Telling.{decided-closes}
 
 module _ (S : Setting) (F : Fair S) (h : List Event) (s : State) (I : Invariant S h s) where

@@ -1,17 +1,15 @@
 -- Every call has an answer, wherever a run stands.
-use Prim.Native.Nat.{ℕ, _≤_, _<_}
+use Prim.Native.Nat.{ℕ, _≤_}
 use native.Mathlib.Decide.{decLe}
-use mathlib.Core.Path.{_≡_, refl}
+use mathlib.Core.Path.{refl}
 use Rattle.protocol.specs.Wires.{Pool, pool, waiting}
-use Rattle.protocol.specs.Settings.{Setting}
-use Rattle.protocol.specs.Calls.{Call}
 use Rattle.protocol.specs.Play.{call-answer, call-leaves}
-use Rattle.protocol.specs.Histories.{State, May-take, Does}
+use Rattle.protocol.specs.Histories.{May-take}
 use Rattle.protocol.specs.Companions.{Every-call-answered}
 use Rattle.protocol.proofs.Copies.{waiting-some}
 
 -- some code may be taken
-takeable : (w : Pool) → (x : ℕ) × May-take w x
+pub takeable : (w : Pool) → (x : ℕ) × May-take w x
 takeable w = go (decLe 1 (waiting (w .copies)))
   where
     go : Dec (1 ≤ waiting (w .copies)) → (x : ℕ) × May-take w x

@@ -2,7 +2,7 @@
 use Prim.Native.Nat.{ℕ, _≤_, _<_}
 use native.Mathlib.Omega.{arith}
 use mathlib.Core.Bool.{Bool, true, false, not, _&&_, cond}
-use mathlib.Core.Path.{_≡_, refl, sym, _∙_, ap, subst}
+use mathlib.Core.Path.{_≡_, refl, sym, _∙_, ap}
 use lib.Dec.{eqb, leb, ltb}
 use Rattle.std.proofs.shelf.Tests.{and-parts, and-from, not-true, not-from-false, ltb-true, leb-true, eqb-true, lt-ltb, le-leb, cond-true}
 use Rattle.std.specs.declared.option.Option.{Option}
@@ -10,14 +10,14 @@ use Rattle.std.specs.declared.option.Option.the-variants.{Some, None}
 use Rattle.protocol.specs.declared.refusal.Refusal.{Refusal}
 use Rattle.protocol.specs.declared.payload.Payload.{Payload}
 use Rattle.protocol.specs.Refusals.{first-no}
-use Rattle.protocol.specs.Messages.{Message, message-of, code, payload-of, payload-kind, payload-content, message, Writable}
+use Rattle.protocol.specs.Messages.{Message, payload-of, payload-kind, payload-content, message}
 use Rattle.protocol.specs.Rounds.{absent}
 use Rattle.protocol.specs.Wires.{Wire, waiting, free}
-use Rattle.protocol.specs.Settings.{Setting, In-range, Correct}
+use Rattle.protocol.specs.Settings.{Setting, Correct}
 use Rattle.protocol.specs.Calls.{propose, step, plant, deliver}
 use Rattle.protocol.specs.Play.{Configuration, admitted, landing, outcome-of, needed, questions}
 use Rattle.protocol.proofs.Asking.{none-some}
-use Rattle.protocol.proofs.Codes.{payload-back, payload-numbers, code-of-message}
+use Rattle.protocol.proofs.Codes.{payload-back, payload-numbers}
 use Rattle.protocol.proofs.Invariant.{Round}
 
 -- a question that is answered yes, and those that follow
@@ -118,7 +118,7 @@ module _ {W : Type 0} (K : Wire W) (S : Setting) (s : Configuration W) where
   pub record Steps (i : ℕ) : Type 0 where
     pub correct : Correct S i
     pub started : 1 ≤ s .processes i .round
-    pub room : needed K S (outcome-of K S s i) ≤ free K (s .wire)
+    pub room : needed S (outcome-of S (s .processes) i) ≤ free K (s .wire)
 
   pub steps : (i : ℕ) → first-no (questions K S s (step i)) ≡ None → Steps i
   steps i e =
@@ -132,7 +132,7 @@ module _ {W : Type 0} (K : Wire W) (S : Setting) (s : Configuration W) where
           not-faulty = not-true (S .faulty i) (yes-here (not (S .faulty i)) _ _ e2);
         };
         started = leb-true 1 _ (yes-here (leb 1 (s .processes i .round)) _ _ e3);
-        room = leb-true _ _ (yes-here (leb (needed K S (outcome-of K S s i)) (free K (s .wire))) _ _ e4);
+        room = leb-true _ _ (yes-here (leb (needed S (outcome-of S (s .processes) i)) (free K (s .wire))) _ _ e4);
       }
 
   -- a message that may be planted

@@ -2,19 +2,17 @@
 use Prim.Native.Nat.{ℕ}
 use native.Mathlib.Omega.{arith}
 use mathlib.Core.Bool.{Bool, true, false, _&&_, cond}
-use mathlib.Core.Logic.{inl, inr}
-use mathlib.Core.Path.{_≡_, refl, sym, _∙_, ap, subst}
-use lib.Dec.{eqb}
-use Rattle.std.proofs.shelf.Tests.{and-parts, and-from, both-ways, eqb-true}
+use mathlib.Core.Path.{_≡_, refl, sym, subst}
+use Rattle.std.proofs.shelf.Tests.{and-parts, both-ways, eqb-true}
 use Rattle.std.specs.declared.option.Option.{Option}
 use Rattle.std.specs.declared.option.Option.the-variants.{Some, None}
 use Rattle.protocol.specs.declared.value.Value.{Value}
 use Rattle.protocol.specs.declared.value.Value.the-variants.{Hold, Release}
 use Rattle.protocol.specs.declared.value.Values.{Values}
 use Rattle.protocol.specs.declared.value.Values.the-variants.{Only, Both}
-use Rattle.protocol.specs.declared.payload.Payload.the-variants.{Est, Aux}
+use Rattle.protocol.specs.declared.payload.Payload.the-variants.{Aux}
 use Rattle.protocol.specs.Facts.{Facts}
-use Rattle.protocol.specs.Values.{value-number, same-value, values-with, has}
+use Rattle.protocol.specs.Values.{same-value, values-with, has}
 use Rattle.protocol.specs.Processes.{Process, any-aux}
 use Rattle.protocol.specs.Rounds.{in-bin, bin, single, double, values}
 

@@ -1,5 +1,5 @@
 -- Messages and their codes, each got back from the other.
-use Prim.Native.Nat.{ℕ, suc, pred, _+_, _*_, _/_, _%_, _≤_, _<_}
+use Prim.Native.Nat.{ℕ, suc, _/_, _%_, _≤_, _<_}
 use native.Mathlib.Omega.{arith}
 use mathlib.Core.Bool.{Bool, true, false, cond}
 use mathlib.Core.Path.{_≡_, refl, sym, _∙_, ap}
@@ -7,9 +7,7 @@ use lib.Dec.{eqb}
 use Rattle.std.proofs.shelf.Tests.{eqb-true}
 use Rattle.std.specs.declared.option.Option.{Option}
 use Rattle.std.specs.declared.option.Option.the-variants.{Some, None}
-use Rattle.protocol.specs.declared.value.Value.{Value}
 use Rattle.protocol.specs.declared.value.Value.the-variants.{Hold, Release}
-use Rattle.protocol.specs.declared.value.Values.{Values}
 use Rattle.protocol.specs.declared.value.Values.the-variants.{Only, Both}
 use Rattle.protocol.specs.declared.payload.Payload.{Payload}
 use Rattle.protocol.specs.declared.payload.Payload.the-variants.{Est, Aux}

@@ -3,7 +3,7 @@ use Prim.Native.Nat.{ℕ, zero, suc, _+_, _≤_, _<_}
 use native.Mathlib.Omega.{arith}
 use native.Mathlib.Decide.{decLt}
 use mathlib.Core.Bool.{Bool, true, false, not, _&&_, cond}
-use mathlib.Core.Path.{_≡_, refl, sym, _∙_, ap, subst}
+use mathlib.Core.Path.{_≡_, refl, sym, _∙_, subst}
 use lib.Dec.{leb}
 use Rattle.std.proofs.shelf.Tests.{and-parts, and-from, both-ways, leb-true, leb-false, not-from-false}
 use Rattle.std.specs.declared.option.Option.{Option}
@@ -17,7 +17,7 @@ use Rattle.protocol.specs.declared.outcome.Outcome.the-variants.{Echo, Est, Au
 use Rattle.protocol.specs.Facts.{Facts}
 use Rattle.protocol.specs.Processes.{Process}
 use Rattle.protocol.specs.Rounds.{bin, values, decides}
-use Rattle.protocol.specs.Steps.{first-of, echo-due, echo-in, echo-from, est-rule, aux-sent, aux-rule, close-rule, own-rules, or-idle, outcome}
+use Rattle.protocol.specs.Steps.{first-of, echo-due, echo-from, est-rule, aux-sent, aux-rule, close-rule, own-rules, or-idle, outcome}
 use Rattle.protocol.proofs.Closing.{none-some, some-same, values-bin}
 
 module _ (f : Facts) (last : ℕ) (x : Process) where

@@ -2,7 +2,7 @@
 use Prim.Native.Nat.{ℕ, zero, suc, _≤_, _<_}
 use native.Mathlib.Omega.{arith}
 use mathlib.Core.Bool.{Bool, true, false, _||_, cond}
-use mathlib.Core.List.{List, [], _∷_}
+use mathlib.Core.List.{List, _∷_}
 use mathlib.Core.Logic.{_⊎_, inl, inr, _≢_}
 use mathlib.Core.Path.{_≡_, refl, sym, _∙_, ap, subst}
 use Rattle.std.proofs.shelf.Tests.{both-ways, or-cases}
@@ -26,15 +26,15 @@ use Rattle.protocol.specs.Rounds.{decides}
 use Rattle.protocol.specs.Outcomes.{after, says}
 use Rattle.protocol.specs.Wires.{pool, waiting, one-more, one-less}
 use Rattle.protocol.specs.Settings.{Setting, Fair, Correct}
-use Rattle.protocol.specs.Calls.{Call, propose, step, plant, deliver, standing, Answer, Reply, done, did, got}
+use Rattle.protocol.specs.Calls.{Call, propose, step, plant, deliver, standing, Answer, done, did}
 use Rattle.protocol.specs.Play.{put, landing, delivered, outcome-of, questions, reply, sent-by, change, call-answer, call-leaves}
 use Rattle.protocol.specs.Histories.{State, May-take, Does, Event, event, Proposed}
 use Rattle.protocol.proofs.Agreement.{held-believed}
-use Rattle.protocol.proofs.Asked.{Admitted, admitted-message, Landed, landing-is, lands, Proposes, proposes, Steps, steps, Plants, plants, delivers}
+use Rattle.protocol.proofs.Asked.{Admitted, admitted-message, landing-is, lands, proposes, steps, plants, delivers}
 use Rattle.protocol.proofs.Closing.{none-some, bin-has}
-use Rattle.protocol.proofs.Codes.{Same, same-code, message-of-code, code-of-message}
+use Rattle.protocol.proofs.Codes.{same-code, message-of-code, code-of-message}
 use Rattle.protocol.proofs.Due.{Due, due-echo, due-est, due-aux, due-close, nothing-due, due}
-use Rattle.protocol.proofs.Invariant.{Closes, Entered, Held, Round, Own, Between, Invariant}
+use Rattle.protocol.proofs.Invariant.{Closes, Entered, Round, Own, Between, Invariant}
 use Rattle.protocol.proofs.OneProcess.{Unmoved, May-send, own-noted, own-same, own-sent, own-propose, own-close}
 use Rattle.protocol.proofs.Sayings.{marked-old, marked-new, marked-cases, heard-old, heard-new, heard-cases}
 use Rattle.protocol.proofs.Tables.{put-elim, put-field, more-old, more-cases}
@@ -351,7 +351,7 @@ module _ (S : Setting) (F : Fair S) (h : List Event) (s : State) (I : Invariant 
       (value-back v (t .value)) (propose-kept i (value-of v) (t .correct) (t .first))
   granted-kept x T (step i) e =
       let t = steps (pool x) S s i e in
-      step-kept x i (outcome-of (pool x) S s i) (t .correct) (t .started) (due (S .facts) (S .rounds) (s .processes i))
+      step-kept x i (outcome-of S (s .processes) i) (t .correct) (t .started) (due (S .facts) (S .rounds) (s .processes i))
   granted-kept x T (plant m) e =
       let t = plants (pool x) S s m e in plant-kept m (t .payload) (Ok done) (t .sender) (t .receiver) (t .faulty) (t .admits)
   granted-kept x T (deliver n) e = deliver-kept n x _ (T (delivers (pool x) S s n e) .1)

@@ -1,13 +1,13 @@
 -- How a call keeps what is so of one correct process.
-use Prim.Native.Nat.{ℕ, zero, suc, _≤_, _<_}
+use Prim.Native.Nat.{ℕ, suc, _≤_, _<_}
 use native.Mathlib.Omega.{arith}
 use native.Mathlib.Decide.{decLt}
-use mathlib.Core.Bool.{Bool, true, false, not, _&&_, _||_, cond}
-use mathlib.Core.List.{List, [], _∷_}
+use mathlib.Core.Bool.{Bool, true, false, _||_}
+use mathlib.Core.List.{List, _∷_}
 use mathlib.Core.Logic.{_⊎_, inl, inr}
 use mathlib.Core.Path.{_≡_, refl, sym, _∙_, ap, subst}
 use Rattle.std.proofs.shelf.Tests.{and-parts, or-left, or-right, or-cases, both-ways}
-use Rattle.std.specs.declared.option.Option.the-variants.{Some, None}
+use Rattle.std.specs.declared.option.Option.the-variants.{Some}
 use Rattle.std.specs.declared.result.Result.the-variants.{Ok}
 use Rattle.protocol.specs.declared.value.Value.{Value}
 use Rattle.protocol.specs.declared.value.Value.the-variants.{Hold, Release}
@@ -21,7 +21,7 @@ use Rattle.protocol.specs.Laws.{Laws}
 use Rattle.protocol.specs.Sets.{Set}
 use Rattle.protocol.specs.Values.{value-number, same-value, has, favoured}
 use Rattle.protocol.specs.Processes.{Process, proposing, sending, any-aux, marked}
-use Rattle.protocol.specs.Rounds.{in-bin, bin, values, decides, absent, new-estimate}
+use Rattle.protocol.specs.Rounds.{in-bin, values, decides, absent, new-estimate}
 use Rattle.protocol.specs.Steps.{aux-sent}
 use Rattle.protocol.specs.Outcomes.{after}
 use Rattle.protocol.specs.Settings.{Setting, Fair}
@@ -31,7 +31,7 @@ use Rattle.protocol.proofs.Closing.{Evidence, alone, mixed, same-values, value
 use Rattle.protocol.proofs.Due.{Est-sent}
 use Rattle.protocol.proofs.Invariant.{Closes, Entered, by-proposal, by-closing, Held, Round, Own}
 use Rattle.protocol.proofs.Progress.{any-of, sent-content}
-use Rattle.protocol.proofs.Sayings.{marked-old, marked-new, marked-cases}
+use Rattle.protocol.proofs.Sayings.{marked-old, marked-cases}
 
 -- a longer history
 abbrev pub Longer : List Event → List Event → Type 0

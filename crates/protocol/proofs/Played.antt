@@ -1,31 +1,29 @@
 -- A play over any kind of wire that keeps its laws is a history.
-use Prim.Native.Nat.{ℕ, zero, suc, _+_, _-_, _≤_, _<_}
+use Prim.Native.Nat.{ℕ, zero, suc, _-_, _≤_, _<_}
 use native.Mathlib.Omega.{arith}
-use mathlib.Core.Bool.{Bool, true, false, not, _&&_, cond}
+use mathlib.Core.Bool.{Bool, true, false, cond}
 use mathlib.Core.List.{List, [], _∷_}
 use mathlib.Core.Path.{_≡_, refl, sym, _∙_, ap, subst}
-use lib.Dec.{eqb, leb, ltb}
-use Rattle.std.proofs.shelf.Tests.{lt-ltb, ltb-true, ltb-false, eqb-true, cond-true, cond-false, cases-bool, ne-eqb}
+use lib.Dec.{eqb, ltb}
+use Rattle.std.proofs.shelf.Tests.{lt-ltb, ltb-true, ltb-false, cond-true, cond-false, ne-eqb}
 use Rattle.std.specs.declared.option.Option.{Option}
 use Rattle.std.specs.declared.option.Option.the-variants.{Some, None}
 use Rattle.protocol.specs.declared.refusal.Refusal.{Refusal}
-use Rattle.protocol.specs.declared.refusal.Layer.the-variants as layer
 use Rattle.protocol.specs.declared.payload.Payload.{Payload}
 use Rattle.protocol.specs.declared.payload.Payload.the-variants as payload
 use Rattle.protocol.specs.declared.outcome.Outcome.{Outcome}
-use Rattle.protocol.specs.Refusals.{Question, ask, first-no, answer, leaves, changed}
-use Rattle.protocol.specs.Messages.{Message, code, message, Writable}
+use Rattle.protocol.specs.Refusals.{Question, first-no, answer, leaves, changed}
+use Rattle.protocol.specs.Messages.{Message, code, message}
 use Rattle.protocol.specs.Processes.{Process}
 use Rattle.protocol.specs.Rounds.{absent}
 use Rattle.protocol.specs.Outcomes.{after, says}
-use Rattle.protocol.specs.Wires.{Wire, Wire-laws, Pool, pooled, pool, waiting, waiting-below, free, one-more, one-less}
-use Rattle.protocol.specs.Settings.{Setting, In-range, Fair}
-use Rattle.protocol.specs.Calls.{Call, propose, step, plant, deliver, standing, Answer, Reply}
-use Rattle.protocol.specs.Play.{Configuration, put, admitted, outcome-of, needed, questions, reply, sent-to, sent-by, change, call-answer, call-leaves}
-use Rattle.protocol.specs.Histories.{State, state-of, May-take, Does, Event, event, Beginning, Leads, begins, goes}
-use Rattle.protocol.specs.Promise.{Promise}
+use Rattle.protocol.specs.Wires.{Wire, Wire-laws, Pool, pooled, pool, waiting, free, one-more, one-less}
+use Rattle.protocol.specs.Settings.{Setting, In-range}
+use Rattle.protocol.specs.Calls.{Call, propose, step, plant, deliver, standing}
+use Rattle.protocol.specs.Play.{Configuration, put, asked, outcome-of, needed, questions, reply, sent-to, sent-by, change, call-answer, call-leaves}
+use Rattle.protocol.specs.Histories.{State, state-of, May-take, Does, Event, event, Leads, begins, goes}
 use Rattle.protocol.specs.Companions.{Every-wire-plays, history, final, Every-play-keeps-promise}
-use Rattle.protocol.proofs.Asked.{Steps, steps, Plants, plants, delivers, admitted-message}
+use Rattle.protocol.proofs.Asked.{steps, plants, delivers, admitted-message}
 use Rattle.protocol.proofs.Closing.{none-some, some-same}
 use Rattle.protocol.proofs.Codes.{code-below}
 use Rattle.protocol.proofs.Copies.{waiting-same, waiting-more}
@@ -38,7 +36,7 @@ same-round : (q r : ℕ) (o p : Payload) → _≡_ {A = Option (ℕ × Payload)}
 same-round q r o p e = ap (λ (u : ℕ × Payload). u .0) (some-same {A = ℕ × Payload} (q, o) (r, p) e)
 
 -- what a step says, it says for a round of the run
-says-round :
+pub says-round :
     (S : Setting) (x : Process) (o : Outcome) (r : ℕ) (p : Payload) → 1 ≤ x .round → Due (S .facts) (S .rounds) x o
     → says o ≡ Some (r, p) → Round S r
 says-round S x o r p l (due-echo q v lq mq b) e = let f = same-round q r (payload.Est v) p e in record { first = omega arith; last = omega arith }
@@ -165,7 +163,7 @@ module _ {W : Type 0} (K : Wire W) (L : Wire-laws K) where
         all-sent x i (m .0) (m .1) (S .facts .n) w li (R (m .0) (m .1) refl) (omega arith) (room m refl) .means
 
     -- the free places for a step that says something
-    room-for : (o : Outcome) (w : W) → needed K S o ≤ free K w → (m : ℕ × Payload) → says o ≡ Some m → S .facts .n ≤ free K w
+    room-for : (o : Outcome) (w : W) → needed S o ≤ free K w → (m : ℕ × Payload) → says o ≡ Some m → S .facts .n ≤ free K w
     room-for o w l m e = subst (λ (u : Option (ℕ × Payload)). cond (absent u) 0 (S .facts .n) ≤ free K w) e l
 
     module _ (s : Configuration W) where
@@ -188,24 +186,8 @@ module _ {W : Type 0} (K : Wire W) (L : Wire-laws K) where
           (t .0, subst (λ (u : ℕ). 1 ≤ u) (sym (pooled-copies (s .wire) (picked c) (t .0))) (t .1))
 
       same-questions : (c : Call) → questions K S s c ≡ questions (pool (picked c)) S (state-of K s) c
-      same-questions (propose i v) = refl
-      same-questions (step i) =
-          ap
-          (λ (u : ℕ).
-          ask 1 layer.Run (S .live) ∷ ask 2 layer.Run (ltb i (S .facts .n)) ∷ ask 3 layer.Run (not (S .faulty i))
-          ∷ ask 6 layer.Run (leb 1 (s .processes i .round))
-          ∷ ask 9 layer.Wire (leb (needed K S (outcome-of K S s i)) (K .places (s .wire) - u)) ∷ [])
-          (sym (pooled-waiting (s .wire)))
-      same-questions (plant m) =
-          ap
-          (λ (u : ℕ).
-          ask 1 layer.Run (S .live) ∷ ask 2 layer.Run (ltb (m .sender) (S .facts .n) && ltb (m .receiver) (S .facts .n))
-          ∷ ask 7 layer.Run (S .faulty (m .sender)) ∷ ask 8 layer.Run (not (absent (admitted S m)))
-          ∷ ask 9 layer.Wire (leb 1 (K .places (s .wire) - u)) ∷ [])
-          (sym (pooled-waiting (s .wire)))
-      same-questions (deliver k) =
-          ap (λ (u : ℕ). ask 1 layer.Run (S .live) ∷ ask 10 layer.Wire (leb 1 u) ∷ []) (sym (pooled-waiting (s .wire)))
-      same-questions (standing i) = refl
+      same-questions c =
+          ap (λ (u : ℕ). asked S (s .processes) u (K .places (s .wire) - u) c) (sym (pooled-waiting (s .wire)))
 
       same-reply : (c : Call) → reply K S s c ≡ reply (pool (picked c)) S (state-of K s) c
       same-reply (propose i v) = refl
@@ -220,7 +202,7 @@ module _ {W : Type 0} (K : Wire W) (L : Wire-laws K) where
       same-change (propose i v) e = refl
       same-change (step i) e =
           let t = steps K S s i e in
-          let o = outcome-of K S s i in
+          let o = outcome-of S (s .processes) i in
           let m =
           said (picked (step i)) i (says o) (s .wire) (t .correct .below)
           (λ r p q. says-round S (s .processes i) o r p (t .started) (due (S .facts) (S .rounds) (s .processes i)) q)

@@ -2,12 +2,12 @@
 use Prim.Native.Nat.{ℕ, zero, suc, _≤_, _<_}
 use native.Mathlib.Omega.{arith}
 use native.Mathlib.Decide.{decLt, ℕ-discrete}
-use mathlib.Core.Bool.{Bool, true, false, not, _&&_, _||_}
+use mathlib.Core.Bool.{Bool, true, false, not, _||_}
 use mathlib.Core.List.{List}
 use mathlib.Core.Logic.{_⊎_, inl, inr}
-use mathlib.Core.Path.{_≡_, refl, sym, _∙_, ap, subst}
+use mathlib.Core.Path.{_≡_, refl, sym, subst}
 use Rattle.std.proofs.shelf.Tests.{and-parts, and-from, or-left, or-right, or-cases, not-true, both-ways, cases-bool}
-use Rattle.std.specs.declared.option.Option.the-variants.{Some, None}
+use Rattle.std.specs.declared.option.Option.the-variants.{None}
 use Rattle.protocol.specs.declared.value.Value.{Value}
 use Rattle.protocol.specs.declared.value.Value.the-variants.{Hold, Release}
 use Rattle.protocol.specs.declared.value.Values.{Values}
@@ -18,7 +18,7 @@ use Rattle.protocol.specs.Sets.{Set, less, all-less}
 use Rattle.protocol.specs.Messages.{code, message}
 use Rattle.protocol.specs.Values.{has}
 use Rattle.protocol.specs.Processes.{Process, any-aux}
-use Rattle.protocol.specs.Rounds.{in-bin, single, double, values}
+use Rattle.protocol.specs.Rounds.{in-bin, values}
 use Rattle.protocol.specs.Steps.{aux-sent}
 use Rattle.protocol.specs.Settings.{Setting, Fair, Correct}
 use Rattle.protocol.specs.Histories.{State, Event}
@@ -26,7 +26,7 @@ use Rattle.protocol.specs.Promise.{No-message-waits}
 use Rattle.protocol.proofs.Codes.{code-below, writable}
 use Rattle.protocol.proofs.Closing.{none-single, none-double, bin-some}
 use Rattle.protocol.proofs.Due.{Rests}
-use Rattle.protocol.proofs.Invariant.{Round, Own, Between, Invariant}
+use Rattle.protocol.proofs.Invariant.{Round, Invariant}
 
 -- AUX that was sent has a content
 pub sent-content : (x : Process) (r : ℕ) → aux-sent x r ≡ true → (c : Values) × (x .sent r (Aux c) ≡ true)

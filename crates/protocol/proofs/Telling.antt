@@ -1,9 +1,9 @@
 -- What a history tells of closings and decisions.
-use Prim.Native.Nat.{ℕ, zero, suc}
+use Prim.Native.Nat.{ℕ}
 use native.Mathlib.Omega.{arith}
 use mathlib.Core.Bool.{Bool, true, false, cond}
 use mathlib.Core.List.{List, [], _∷_}
-use mathlib.Core.Path.{_≡_, refl, sym, subst, ap}
+use mathlib.Core.Path.{_≡_, refl, subst}
 use Rattle.std.specs.declared.result.Result.the-variants.{Ok}
 use Rattle.protocol.specs.declared.value.Value.{Value}
 use Rattle.protocol.specs.declared.value.Value.the-variants.{Hold, Release}
@@ -12,9 +12,9 @@ use Rattle.protocol.specs.declared.value.Values.the-variants.{Only, Both}
 use Rattle.protocol.specs.declared.outcome.Outcome.{Outcome}
 use Rattle.protocol.specs.declared.outcome.Outcome.the-variants.{Echo, Est, Aux, Close, Idle}
 use Rattle.protocol.specs.Values.{values-number}
-use Rattle.protocol.specs.Outcomes.{Word, close, word, numbers}
+use Rattle.protocol.specs.Outcomes.{close, word, numbers}
 use Rattle.protocol.specs.Calls.{step, did}
-use Rattle.protocol.specs.Histories.{Event, event, Among, Told, Closed, Decided}
+use Rattle.protocol.specs.Histories.{Event, event, Among, Closed, Decided}
 use Rattle.protocol.proofs.Invariant.{Closes}
 
 only-number : (c : Values) (v : Value) → values-number c ≡ values-number (Only v) → c ≡ Only v

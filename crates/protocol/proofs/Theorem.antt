@@ -1,28 +1,26 @@
 -- The theorem: every history from a beginning keeps the promise.
-use Prim.Native.Nat.{ℕ, _≤_, _<_}
+use Prim.Native.Nat.{ℕ}
 use native.Mathlib.Omega.{arith}
-use mathlib.Core.Bool.{Bool, true, false}
+use mathlib.Core.Bool.{false}
 use mathlib.Core.List.{List, []}
 use mathlib.Core.Path.{_≡_, refl, sym, _∙_, ap, subst}
 use Rattle.std.proofs.shelf.Tests.{both-ways}
-use Rattle.protocol.specs.declared.payload.Payload.{Payload}
-use Rattle.protocol.specs.declared.outcome.Outcome.{Outcome}
 use Rattle.protocol.specs.declared.outcome.Outcome.the-variants.{Idle}
 use Rattle.protocol.specs.Refusals.{first-no}
 use Rattle.protocol.specs.Messages.{code, message}
 use Rattle.protocol.specs.Processes.{Process, blank}
 use Rattle.protocol.specs.Steps.{outcome}
 use Rattle.protocol.specs.Wires.{pool}
-use Rattle.protocol.specs.Settings.{Setting, Fair, Correct}
-use Rattle.protocol.specs.Calls.{Reply, did, step}
+use Rattle.protocol.specs.Settings.{Setting, Fair}
+use Rattle.protocol.specs.Calls.{did, step}
 use Rattle.protocol.specs.Play.{outcome-of, questions}
-use Rattle.protocol.specs.Histories.{State, Does, Event, Beginning, Leads, begins, goes}
+use Rattle.protocol.specs.Histories.{State, Event, Beginning, Leads, begins, goes}
 use Rattle.protocol.specs.Promise.{Would-idle, No-deadlock, Correct-processes-never-part}
 use Rattle.protocol.proofs.Agreement.{agreement, validity}
 use Rattle.protocol.proofs.Asking.{granted-none}
 use Rattle.protocol.proofs.Codes.{code-below}
 use Rattle.protocol.proofs.Due.{Due, Rests, due, rests-of}
-use Rattle.protocol.proofs.Invariant.{Round, Own, Between, Invariant}
+use Rattle.protocol.proofs.Invariant.{Own, Invariant}
 use Rattle.protocol.proofs.Kept.{kept}
 use Rattle.protocol.proofs.Progress.{all-past}
 use Rattle.protocol.proofs.Telling.{closes-closed}
@@ -70,7 +68,7 @@ idle-rests : (S : Setting) (s : State) (i : ℕ) → Would-idle S s i → Rests 
 idle-rests S s i w =
     let x = w .1 .taken in
     let t =
-    granted-none (first-no (questions (pool x) S s (step i))) (did (outcome-of (pool x) S s i)) (did Idle) (w .1 .answers) in
+    granted-none (first-no (questions (pool x) S s (step i))) (did (outcome-of S (s .processes) i)) (did Idle) (w .1 .answers) in
     let e = t .1 in
     let o : outcome (S .facts) (S .rounds) (s .processes i) ≡ Idle = cc in
     rests-of (S .facts) (S .rounds) (s .processes i)

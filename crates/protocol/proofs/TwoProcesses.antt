@@ -1,9 +1,9 @@
 -- How a call keeps what is so of two correct processes and the wire.
-use Prim.Native.Nat.{ℕ, zero, suc, _≤_, _<_}
+use Prim.Native.Nat.{ℕ, _≤_, _<_}
 use native.Mathlib.Omega.{arith}
 use mathlib.Core.Bool.{Bool, true}
 use mathlib.Core.Logic.{_⊎_, inl, inr, _≢_}
-use mathlib.Core.Path.{_≡_, refl, sym, _∙_, ap, subst}
+use mathlib.Core.Path.{_≡_, sym, subst}
 use Rattle.protocol.specs.declared.payload.Payload.{Payload}
 use Rattle.protocol.specs.Sets.{Set}
 use Rattle.protocol.specs.Messages.{code, message, Writable}
@@ -11,7 +11,7 @@ use Rattle.protocol.specs.Processes.{Process}
 use Rattle.protocol.specs.Wires.{Pool, one-less}
 use Rattle.protocol.specs.Settings.{Setting, In-range, Correct}
 use Rattle.protocol.specs.Play.{put}
-use Rattle.protocol.proofs.Codes.{Same, same-code, writable}
+use Rattle.protocol.proofs.Codes.{same-code, writable}
 use Rattle.protocol.proofs.Invariant.{Round, Between}
 use Rattle.protocol.proofs.Tables.{put-elim, less-old, less-cases, copies-to, all-old, all-new, all-cases}
 

@@ -1,6 +1,6 @@
 -- The play: what each call asks, answers and leaves, over any kind of wire.
 use Prim.Native.Nat.{ℕ, zero, suc}
-use mathlib.Core.Bool.{Bool, true, false, not, _&&_, cond}
+use mathlib.Core.Bool.{Bool, false, not, _&&_, cond}
 use mathlib.Core.List.{List, [], _∷_}
 use lib.Dec.{eqb, leb, ltb}
 use Rattle.std.specs.declared.option.Option.{Option}
@@ -48,30 +48,34 @@ abbrev pub mark : Message → Option Payload → (ℕ → Process) → Bool
 mark m (Some p) xs = grows (m .sender) (m .round) p (xs (m .receiver))
 mark m None xs = false
 
+-- the outcome of process i's step
+abbrev pub outcome-of : Setting → (ℕ → Process) → ℕ → Outcome
+outcome-of S xs i = outcome (S .facts) (S .rounds) (xs i)
+
+-- the places that a step needs: one for each process if it sends
+abbrev pub needed : Setting → Outcome → ℕ
+needed S o = cond (absent (says o)) 0 (S .facts .n)
+
+-- what each call asks, in order, where so many copies wait and so many places are free
+abbrev pub asked : Setting → (ℕ → Process) → ℕ → ℕ → Call → List Question
+asked S xs waits room (propose i v) =
+    ask 1 layer.Run (S .live) ∷ ask 2 layer.Run (ltb i (S .facts .n)) ∷ ask 3 layer.Run (not (S .faulty i))
+    ∷ ask 4 layer.Run (leb v 1) ∷ ask 5 layer.Run (eqb (xs i .round) 0) ∷ []
+asked S xs waits room (step i) =
+    ask 1 layer.Run (S .live) ∷ ask 2 layer.Run (ltb i (S .facts .n)) ∷ ask 3 layer.Run (not (S .faulty i))
+    ∷ ask 6 layer.Run (leb 1 (xs i .round)) ∷ ask 9 layer.Wire (leb (needed S (outcome-of S xs i)) room) ∷ []
+asked S xs waits room (plant m) =
+    ask 1 layer.Run (S .live) ∷ ask 2 layer.Run (ltb (m .sender) (S .facts .n) && ltb (m .receiver) (S .facts .n))
+    ∷ ask 7 layer.Run (S .faulty (m .sender)) ∷ ask 8 layer.Run (not (absent (admitted S m)))
+    ∷ ask 9 layer.Wire (leb 1 room) ∷ []
+asked S xs waits room (deliver k) = ask 1 layer.Run (S .live) ∷ ask 10 layer.Wire (leb 1 waits) ∷ []
+asked S xs waits room (standing i) =
+    ask 1 layer.Run (S .live) ∷ ask 2 layer.Run (ltb i (S .facts .n)) ∷ ask 3 layer.Run (not (S .faulty i)) ∷ []
+
 module _ {W : Type 0} (K : Wire W) (S : Setting) where
-  -- the outcome of process i's step
-  abbrev pub outcome-of : Configuration W → ℕ → Outcome
-  outcome-of s i = outcome (S .facts) (S .rounds) (s .processes i)
-
-  -- the places that a step needs: one for each process if it sends
-  abbrev pub needed : Outcome → ℕ
-  needed o = cond (absent (says o)) 0 (S .facts .n)
-
-  -- what each call asks, in order
+  -- what a call asks where a run stands
   abbrev pub questions : Configuration W → Call → List Question
-  questions s (propose i v) =
-      ask 1 layer.Run (S .live) ∷ ask 2 layer.Run (ltb i (S .facts .n)) ∷ ask 3 layer.Run (not (S .faulty i))
-      ∷ ask 4 layer.Run (leb v 1) ∷ ask 5 layer.Run (eqb (s .processes i .round) 0) ∷ []
-  questions s (step i) =
-      ask 1 layer.Run (S .live) ∷ ask 2 layer.Run (ltb i (S .facts .n)) ∷ ask 3 layer.Run (not (S .faulty i))
-      ∷ ask 6 layer.Run (leb 1 (s .processes i .round)) ∷ ask 9 layer.Wire (leb (needed (outcome-of s i)) (free K (s .wire))) ∷ []
-  questions s (plant m) =
-      ask 1 layer.Run (S .live) ∷ ask 2 layer.Run (ltb (m .sender) (S .facts .n) && ltb (m .receiver) (S .facts .n))
-      ∷ ask 7 layer.Run (S .faulty (m .sender)) ∷ ask 8 layer.Run (not (absent (admitted S m)))
-      ∷ ask 9 layer.Wire (leb 1 (free K (s .wire))) ∷ []
-  questions s (deliver k) = ask 1 layer.Run (S .live) ∷ ask 10 layer.Wire (leb 1 (waiting (K .copies (s .wire)))) ∷ []
-  questions s (standing i) =
-      ask 1 layer.Run (S .live) ∷ ask 2 layer.Run (ltb i (S .facts .n)) ∷ ask 3 layer.Run (not (S .faulty i)) ∷ []
+  questions s c = asked S (s .processes) (waiting (K .copies (s .wire))) (free K (s .wire)) c
 
   -- the message that a delivery with k takes
   abbrev pub taken : Configuration W → ℕ → Message
@@ -80,7 +84,7 @@ module _ {W : Type 0} (K : Wire W) (S : Setting) where
   -- what a call answers if it is not refused
   abbrev pub reply : Configuration W → Call → Reply
   reply s (propose i v) = done
-  reply s (step i) = did (outcome-of s i)
+  reply s (step i) = did (outcome-of S (s .processes) i)
   reply s (plant m) = done
   reply s (deliver k) = got (K .pick (s .wire) k) (mark (taken s k) (landing S (taken s k)) (s .processes))
   reply s (standing i) =
@@ -101,8 +105,8 @@ module _ {W : Type 0} (K : Wire W) (S : Setting) where
   change s (propose i v) =
       record { processes = put i (proposing (value-of v) (s .processes i)) (s .processes); wire = s .wire }
   change s (step i) = record {
-    processes = put i (after (outcome-of s i) (s .processes i)) (s .processes);
-    wire = sent-by i (says (outcome-of s i)) (s .wire);
+    processes = put i (after (outcome-of S (s .processes) i) (s .processes i)) (s .processes);
+    wire = sent-by i (says (outcome-of S (s .processes) i)) (s .wire);
   }
   change s (plant m) = record { processes = s .processes; wire = K .send (code m) (s .wire) }
   change s (deliver k) = record {

@@ -1,0 +1,3 @@
+mod Holding
+mod Counted
+mod Happening
