@@ -16,7 +16,7 @@ use Rattle.protocol.specs.declared.payload.Payload.{Payload}
 use Rattle.protocol.specs.Refusals.{first-no, granted, changed}
 use Rattle.protocol.specs.Messages.{Message, code, message}
 use Rattle.protocol.specs.Outcomes.{says}
-use Rattle.protocol.specs.Rounds.{absent}
+use Rattle.protocol.specs.Options.{absent}
 use Rattle.protocol.specs.Wires.{Pool, pool, waiting, waiting-below, one-less}
 use Rattle.protocol.specs.Settings.{Setting, In-range}
 use Rattle.protocol.specs.Calls.{Call, propose, step, plant, deliver, standing, done, did}

@@ -49,6 +49,10 @@ pub record Scene : Type 0 where
   pub release : List ℕ
   pub both : List ℕ
 
+-- a scene by its parts
+abbrev pub scene : ℕ → Value → Values → List ℕ → List ℕ → List ℕ → Scene
+scene r e b h l o = record { round = r; estimate = e; bin = b; hold = h; release = l; both = o }
+
 -- what an example says
 pub data Example : Type 0 where
   -- the franchise is made
@@ -138,22 +142,10 @@ examples =
     ∷ refused (votes (5 ∷ 1 ∷ 1 ∷ 1 ∷ []) 3) 14 Franchise
     ∷ coded 2 0 1 (Est Release) 4097
     ∷ coded 1 3 2 (Aux Both) 2503
-    ∷ steps (heads 4 1)
-    (record { round = 1; estimate = Hold; bin = Only Release; hold = []; release = 0 ∷ 1 ∷ 2 ∷ []; both = [] })
-    (Close 1 (Only Release) true) Release (Some Release)
-    ∷ steps (heads 4 1)
-    (record { round = 1; estimate = Release; bin = Only Hold; hold = 0 ∷ 1 ∷ 2 ∷ []; release = []; both = [] })
-    (Close 1 (Only Hold) false) Hold None
-    ∷ steps (heads 4 1)
-    (record { round = 2; estimate = Release; bin = Only Hold; hold = 0 ∷ 1 ∷ 2 ∷ []; release = []; both = [] })
-    (Close 2 (Only Hold) true) Hold (Some Hold)
-    ∷ steps (heads 4 1)
-    (record { round = 1; estimate = Hold; bin = Both; hold = 0 ∷ 1 ∷ []; release = 2 ∷ []; both = [] })
-    (Close 1 Both false) Release None
-    ∷ steps (heads 4 1)
-    (record { round = 1; estimate = Release; bin = Both; hold = 0 ∷ 1 ∷ 2 ∷ []; release = 3 ∷ []; both = [] })
-    (Close 1 (Only Hold) false) Hold None
-    ∷ steps (heads 4 1)
-    (record { round = 1; estimate = Hold; bin = Only Release; hold = []; release = 0 ∷ 1 ∷ []; both = 2 ∷ [] })
-    Idle Hold None
+    ∷ steps (heads 4 1) (scene 1 Hold (Only Release) [] (0 ∷ 1 ∷ 2 ∷ []) []) (Close 1 (Only Release) true) Release (Some Release)
+    ∷ steps (heads 4 1) (scene 1 Release (Only Hold) (0 ∷ 1 ∷ 2 ∷ []) [] []) (Close 1 (Only Hold) false) Hold None
+    ∷ steps (heads 4 1) (scene 2 Release (Only Hold) (0 ∷ 1 ∷ 2 ∷ []) [] []) (Close 2 (Only Hold) true) Hold (Some Hold)
+    ∷ steps (heads 4 1) (scene 1 Hold Both (0 ∷ 1 ∷ []) (2 ∷ []) []) (Close 1 Both false) Release None
+    ∷ steps (heads 4 1) (scene 1 Release Both (0 ∷ 1 ∷ 2 ∷ []) (3 ∷ []) []) (Close 1 (Only Hold) false) Hold None
+    ∷ steps (heads 4 1) (scene 1 Hold (Only Release) [] (0 ∷ 1 ∷ []) (2 ∷ [])) Idle Hold None
     ∷ []

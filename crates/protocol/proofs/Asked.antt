@@ -11,7 +11,7 @@ use Rattle.protocol.specs.declared.refusal.Refusal.{Refusal}
 use Rattle.protocol.specs.declared.payload.Payload.{Payload}
 use Rattle.protocol.specs.Refusals.{first-no}
 use Rattle.protocol.specs.Messages.{Message, payload-of, payload-kind, payload-content, message}
-use Rattle.protocol.specs.Rounds.{absent}
+use Rattle.protocol.specs.Options.{absent}
 use Rattle.protocol.specs.Wires.{Wire, waiting, free}
 use Rattle.protocol.specs.Settings.{Setting, Correct}
 use Rattle.protocol.specs.Calls.{propose, step, plant, deliver}

@@ -16,8 +16,9 @@ use Rattle.protocol.specs.declared.outcome.Outcome.{Outcome}
 use Rattle.protocol.specs.declared.outcome.Outcome.the-variants.{Echo, Est, Aux, Close, Idle}
 use Rattle.protocol.specs.Facts.{Facts}
 use Rattle.protocol.specs.Processes.{Process}
+use Rattle.protocol.specs.Options.{first-of}
 use Rattle.protocol.specs.Rounds.{bin, values, decides}
-use Rattle.protocol.specs.Steps.{first-of, echo-due, echo-from, est-rule, aux-sent, aux-rule, close-rule, own-rules, or-idle, outcome}
+use Rattle.protocol.specs.Steps.{echo-due, echo-from, est-rule, aux-sent, aux-rule, close-rule, own-rules, or-idle, outcome}
 use Rattle.protocol.proofs.Closing.{none-some, some-same, values-bin}
 
 module _ (f : Facts) (last : ℕ) (x : Process) where

@@ -21,7 +21,8 @@ use Rattle.protocol.specs.Laws.{Laws}
 use Rattle.protocol.specs.Sets.{Set}
 use Rattle.protocol.specs.Values.{value-number, same-value, has, favoured}
 use Rattle.protocol.specs.Processes.{Process, proposing, sending, any-aux, marked}
-use Rattle.protocol.specs.Rounds.{in-bin, values, decides, absent, new-estimate}
+use Rattle.protocol.specs.Options.{absent}
+use Rattle.protocol.specs.Rounds.{in-bin, values, decides, new-estimate}
 use Rattle.protocol.specs.Steps.{aux-sent}
 use Rattle.protocol.specs.Outcomes.{after}
 use Rattle.protocol.specs.Settings.{Setting, Fair}

@@ -15,7 +15,7 @@ use Rattle.protocol.specs.declared.outcome.Outcome.{Outcome}
 use Rattle.protocol.specs.Refusals.{Question, first-no, answer, leaves, changed}
 use Rattle.protocol.specs.Messages.{Message, code, message}
 use Rattle.protocol.specs.Processes.{Process}
-use Rattle.protocol.specs.Rounds.{absent}
+use Rattle.protocol.specs.Options.{absent}
 use Rattle.protocol.specs.Outcomes.{after, says}
 use Rattle.protocol.specs.Wires.{Wire, Wire-laws, Pool, pooled, pool, waiting, free, one-more, one-less}
 use Rattle.protocol.specs.Settings.{Setting, In-range}

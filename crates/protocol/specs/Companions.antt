@@ -1,12 +1,16 @@
--- What stands beside the promise: that codes can be read back, that no call is without an answer, and that every play is a history.
+-- What stands beside the promise: that codes can be read back, that every call has an answer, that refusals are exact, and that every play is a history.
 use Prim.Native.Nat.{ℕ, _<_}
 use mathlib.Core.List.{List, [], _∷_}
 use mathlib.Core.Path.{_≡_}
+use Rattle.std.specs.declared.option.Option.the-variants.{Some}
+use Rattle.std.specs.declared.result.Result.the-variants.{Err}
+use Rattle.protocol.specs.declared.refusal.Refusal.{Refusal}
+use Rattle.protocol.specs.Refusals.{first-no}
 use Rattle.protocol.specs.Messages.{Message, code, message-of, Writable}
-use Rattle.protocol.specs.Wires.{Wire, Wire-laws}
+use Rattle.protocol.specs.Wires.{Wire, Wire-laws, pool}
 use Rattle.protocol.specs.Settings.{Setting, In-range, Fair}
 use Rattle.protocol.specs.Calls.{Call, Answer}
-use Rattle.protocol.specs.Play.{Configuration, call-answer, call-leaves}
+use Rattle.protocol.specs.Play.{Configuration, questions, call-answer, call-leaves}
 use Rattle.protocol.specs.Histories.{State, state-of, Does, Event, event, Beginning}
 use Rattle.protocol.specs.Promise.{Promise}
 
@@ -21,6 +25,13 @@ pub record Codes-read-back : Type 0 where
 -- every call has an answer, wherever a run stands
 abbrev pub Every-call-answered : Type 0
 Every-call-answered = (S : Setting) (s : State) (c : Call) → (a : Answer) × (t : State) × Does S s c a t
+
+-- a call is refused just by its first no, and then it changes nothing
+abbrev pub Refusals-exact : Type 0
+Refusals-exact =
+    (S : Setting) (s : State) (c : Call) (a : Answer) (t : State) → Does S s c a t → (q : Refusal)
+    → (a ≡ Err q → (first-no (questions (pool 0) S s c) ≡ Some q) × (t ≡ s))
+    × (first-no (questions (pool 0) S s c) ≡ Some q → (a ≡ Err q) × (t ≡ s))
 
 -- over every kind of wire that keeps its laws, what a call answers and leaves is what it can
 abbrev pub Every-wire-plays : Type 0 → Type 0

@@ -65,13 +65,13 @@ abbrev pub Proposed : List Event → ℕ → Value → Type 0
 Proposed h i v = Among (event (propose i (value-number v)) (Ok done)) h
 
 -- a step of process i was told by this word and these numbers
-abbrev pub Told : List Event → ℕ → Word → List ℕ → Type 0
-Told h i w ns = (o : Outcome) × Among (event (step i) (Ok (did o))) h × (word o ≡ w) × (numbers o ≡ ns)
+abbrev pub Step-told : List Event → ℕ → Word → List ℕ → Type 0
+Step-told h i w ns = (o : Outcome) × Among (event (step i) (Ok (did o))) h × (word o ≡ w) × (numbers o ≡ ns)
 
 -- process i has closed round r
 abbrev pub Closed : List Event → ℕ → ℕ → Type 0
-Closed h i r = (c : ℕ) × (d : ℕ) × Told h i close (r ∷ c ∷ d ∷ [])
+Closed h i r = (c : ℕ) × (d : ℕ) × Step-told h i close (r ∷ c ∷ d ∷ [])
 
 -- process i has decided v: it closed a round with the values {v}, and told that it decided there
 abbrev pub Decided : List Event → ℕ → Value → Type 0
-Decided h i v = (r : ℕ) × Told h i close (r ∷ values-number (Only v) ∷ 1 ∷ [])
+Decided h i v = (r : ℕ) × Step-told h i close (r ∷ values-number (Only v) ∷ 1 ∷ [])

@@ -1,4 +1,5 @@
 pub mod Refusals
+pub mod Options
 pub mod Sets
 pub mod Facts
 pub mod Laws

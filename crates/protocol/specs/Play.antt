@@ -8,11 +8,11 @@ use Rattle.std.specs.declared.option.Option.the-variants.{Some, None}
 use Rattle.protocol.specs.declared.refusal.Layer.the-variants as layer
 use Rattle.protocol.specs.declared.payload.Payload.{Payload}
 use Rattle.protocol.specs.declared.outcome.Outcome.{Outcome}
+use Rattle.protocol.specs.Options.{absent}
 use Rattle.protocol.specs.Refusals.{Question, ask, answer, leaves}
 use Rattle.protocol.specs.Values.{value-of, number-or-two}
 use Rattle.protocol.specs.Messages.{Message, code, message-of, payload-of, message}
 use Rattle.protocol.specs.Processes.{Process, proposing, noting, grows}
-use Rattle.protocol.specs.Rounds.{absent}
 use Rattle.protocol.specs.Steps.{outcome}
 use Rattle.protocol.specs.Outcomes.{after, says}
 use Rattle.protocol.specs.Wires.{Wire, waiting, free}
@@ -28,7 +28,7 @@ pub record Configuration (W : Type 0) : Type 0 where
 unfoldable pub put : {A : Type 0} → ℕ → A → (ℕ → A) → ℕ → A
 put i a g j = cond (eqb i j) a (g j)
 
--- what a message says if it is one that may be sent: the round is from 1 to the last, the kind is 0 or 1, and the content is one of that kind
+-- what a message says, if its round is from 1 to the last, its kind 0 or 1, and its content one of that kind
 abbrev pub admitted : Setting → Message → Option Payload
 admitted S m = cond (leb 1 (m .round) && leb (m .round) (S .rounds)) (payload-of (m .kind) (m .content)) None
 

@@ -1,6 +1,6 @@
 -- One round of a correct process: its bin, its values, and what they lead to.
 use Prim.Native.Nat.{ℕ}
-use mathlib.Core.Bool.{Bool, true, false, _&&_, cond}
+use mathlib.Core.Bool.{Bool, false, _&&_, cond}
 use Rattle.std.specs.declared.option.Option.{Option}
 use Rattle.std.specs.declared.option.Option.the-variants.{Some, None}
 use Rattle.protocol.specs.declared.value.Value.{Value}
@@ -8,6 +8,7 @@ use Rattle.protocol.specs.declared.value.Value.the-variants.{Hold, Release}
 use Rattle.protocol.specs.declared.value.Values.{Values}
 use Rattle.protocol.specs.declared.value.Values.the-variants.{Only, Both}
 use Rattle.protocol.specs.declared.payload.Payload.the-variants.{Est, Aux}
+use Rattle.protocol.specs.Options.{absent}
 use Rattle.protocol.specs.Facts.{Facts}
 use Rattle.protocol.specs.Values.{values-with, same-value, favoured}
 use Rattle.protocol.specs.Processes.{Process, any-aux}
@@ -38,11 +39,6 @@ values f x r =
 abbrev pub new-estimate : ℕ → Values → Value
 new-estimate r (Only v) = v
 new-estimate r Both = favoured r
-
--- nothing is there
-abbrev pub absent : {A : Type 0} → Option A → Bool
-absent (Some x) = false
-absent None = true
 
 -- closing its round with these values decides: the one value is the one that the round favours, and nothing is decided
 abbrev pub decides : Process → Values → Bool

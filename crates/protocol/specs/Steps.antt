@@ -11,14 +11,10 @@ use Rattle.protocol.specs.declared.value.Values.the-variants.{Only, Both}
 use Rattle.protocol.specs.declared.payload.Payload.the-variants as payload
 use Rattle.protocol.specs.declared.outcome.Outcome.{Outcome}
 use Rattle.protocol.specs.declared.outcome.Outcome.the-variants.{Echo, Est, Aux, Close, Idle}
+use Rattle.protocol.specs.Options.{first-of}
 use Rattle.protocol.specs.Facts.{Facts}
 use Rattle.protocol.specs.Processes.{Process}
 use Rattle.protocol.specs.Rounds.{bin, values, decides}
-
--- the first of two that there is
-abbrev pub first-of : {A : Type 0} → Option A → Option A → Option A
-first-of (Some x) o = Some x
-first-of None o = o
 
 -- an echo is due: those that sent EST v for round r are believed, and the process never sent it
 unfoldable pub echo-due : Facts → Process → ℕ → Value → Bool

@@ -1,5 +1,5 @@
 //! The theorems about the subject, each as the contract of a function that does nothing else.
-ghost use Rattle.protocol.specs.Companions.{Codes-read-back, Every-call-answered, Every-wire-plays, Every-play-keeps-promise};
+ghost use Rattle.protocol.specs.Companions.{Codes-read-back, Every-call-answered, Refusals-exact, Every-wire-plays, Every-play-keeps-promise};
 ghost use Rattle.protocol.specs.Promise.{Correct-processes-never-part};
 
 /// In every fair setting, every history from a beginning keeps agreement, validity and no deadlock.
@@ -20,6 +20,11 @@ pub fn every_wire_plays<W>()
 /// Every call has an answer, wherever a run stands.
 pub fn every_call_answered()
     ensures { λ _. ⌜ Every-call-answered ⌝ }
+{}
+
+/// A call is refused just by its first no, and a refused call changes nothing.
+pub fn refusals_exact()
+    ensures { λ _. ⌜ Refusals-exact ⌝ }
 {}
 
 /// Messages and codes are got back from each other.
