@@ -1,22 +1,22 @@
 -- Histories whose waiting messages are counted on the way, so that nothing has to add up 32,768 numbers.
 use Prim.Native.Nat.{ℕ, zero, suc, _+_, _-_, _≤_, _<_}
-use native.Mathlib.Omega.{arith}
 use native.Mathlib.Decide.{ℕ-discrete}
+use native.Mathlib.Omega.{arith}
 use mathlib.Core.Bool.{cond}
 use mathlib.Core.List.{List, [], _∷_}
 use mathlib.Core.Logic.{_≢_}
 use mathlib.Core.Path.{_≡_, refl, sym, _∙_, ap, subst}
 use lib.Dec.{eqb}
 use Rattle.std.proofs.shelf.Tests.{eq-eqb, ne-eqb, cond-true, cond-false}
-use Rattle.std.specs.declared.option.Option.{Option}
 use Rattle.std.specs.declared.option.Option.the-variants.{Some, None}
+use Rattle.std.specs.declared.option.Option.{Option}
 use Rattle.std.specs.declared.result.Result.the-variants.{Ok, Err}
 use Rattle.protocol.specs.declared.refusal.Refusal.{Refusal}
 use Rattle.protocol.specs.declared.payload.Payload.{Payload}
 use Rattle.protocol.specs.Refusals.{first-no, granted, changed}
+use Rattle.protocol.specs.Options.{absent}
 use Rattle.protocol.specs.Messages.{Message, code, message}
 use Rattle.protocol.specs.Outcomes.{says}
-use Rattle.protocol.specs.Options.{absent}
 use Rattle.protocol.specs.Wires.{Pool, pool, waiting, waiting-below, one-less}
 use Rattle.protocol.specs.Settings.{Setting, In-range}
 use Rattle.protocol.specs.Calls.{Call, propose, step, plant, deliver, standing, done, did}

@@ -7,13 +7,13 @@ use Rattle.protocol.specs.declared.refusal.Layer.the-variants as layer
 use Rattle.protocol.specs.declared.value.Value.the-variants.{Hold}
 use Rattle.protocol.specs.declared.value.Values.the-variants.{Only}
 use Rattle.protocol.specs.declared.payload.Payload.the-variants as payload
-use Rattle.protocol.specs.Calls.{propose}
 use Rattle.protocol.specs.Messages.{code, message}
 use Rattle.protocol.specs.Processes.{marked, heard}
 use Rattle.protocol.specs.Rounds.{bin, values}
 use Rattle.protocol.specs.Steps.{echo-due, echo-from, aux-sent, own-rules, outcome}
 use Rattle.protocol.specs.Wires.{one-more, one-less}
 use Rattle.protocol.specs.Settings.{In-range}
+use Rattle.protocol.specs.Calls.{propose}
 use Rattle.protocol.specs.Play.{put, sent-to}
 use Rattle.protocol.specs.Histories.{State}
 use Rattle.franchise.specs.Polls.{heads, votes}

@@ -4,10 +4,10 @@ use mathlib.Core.Bool.{Bool, true, false, _||_, cond}
 use mathlib.Core.List.{List, [], _∷_}
 use mathlib.Core.Path.{_≡_}
 use lib.Dec.{eqb}
-use Rattle.std.specs.declared.option.Option.{Option}
 use Rattle.std.specs.declared.option.Option.the-variants.{Some, None}
-use Rattle.std.specs.declared.result.Result.{Result}
+use Rattle.std.specs.declared.option.Option.{Option}
 use Rattle.std.specs.declared.result.Result.the-variants.{Ok, Err}
+use Rattle.std.specs.declared.result.Result.{Result}
 use Rattle.protocol.specs.declared.refusal.Layer.{Layer}
 use Rattle.protocol.specs.declared.refusal.Layer.the-variants.{Franchise}
 use Rattle.protocol.specs.declared.refusal.Refusal.{Refusal}
@@ -19,9 +19,9 @@ use Rattle.protocol.specs.declared.payload.Payload.{Payload}
 use Rattle.protocol.specs.declared.payload.Payload.the-variants.{Est, Aux}
 use Rattle.protocol.specs.declared.outcome.Outcome.{Outcome}
 use Rattle.protocol.specs.declared.outcome.Outcome.the-variants.{Close, Idle}
-use Rattle.protocol.specs.Facts.{Facts}
 use Rattle.protocol.specs.Refusals.{answer}
 use Rattle.protocol.specs.Sets.{Set, empty}
+use Rattle.protocol.specs.Facts.{Facts}
 use Rattle.protocol.specs.Values.{has}
 use Rattle.protocol.specs.Messages.{code, message}
 use Rattle.protocol.specs.Processes.{Process}

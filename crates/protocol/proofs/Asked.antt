@@ -5,20 +5,20 @@ use mathlib.Core.Bool.{Bool, true, false, not, _&&_, cond}
 use mathlib.Core.Path.{_≡_, refl, sym, _∙_, ap}
 use lib.Dec.{eqb, leb, ltb}
 use Rattle.std.proofs.shelf.Tests.{and-parts, and-from, not-true, not-from-false, ltb-true, leb-true, eqb-true, lt-ltb, le-leb, cond-true}
-use Rattle.std.specs.declared.option.Option.{Option}
 use Rattle.std.specs.declared.option.Option.the-variants.{Some, None}
+use Rattle.std.specs.declared.option.Option.{Option}
 use Rattle.protocol.specs.declared.refusal.Refusal.{Refusal}
 use Rattle.protocol.specs.declared.payload.Payload.{Payload}
 use Rattle.protocol.specs.Refusals.{first-no}
-use Rattle.protocol.specs.Messages.{Message, payload-of, payload-kind, payload-content, message}
 use Rattle.protocol.specs.Options.{absent}
+use Rattle.protocol.specs.Messages.{Message, payload-of, payload-kind, payload-content, message}
 use Rattle.protocol.specs.Wires.{Wire, waiting, free}
 use Rattle.protocol.specs.Settings.{Setting, Correct}
 use Rattle.protocol.specs.Calls.{propose, step, plant, deliver}
 use Rattle.protocol.specs.Play.{Configuration, admitted, landing, outcome-of, needed, questions}
-use Rattle.protocol.proofs.Asking.{none-some}
 use Rattle.protocol.proofs.Codes.{payload-back, payload-numbers}
 use Rattle.protocol.proofs.Invariant.{Round}
+use Rattle.protocol.proofs.Options.{none-some}
 
 -- a question that is answered yes, and those that follow
 yes-here : (b : Bool) (q : Refusal) (rest : Option Refusal) → cond b rest (Some q) ≡ None → b ≡ true

@@ -1,17 +1,15 @@
 -- Asking one list of questions after another.
+use Prim.Native.Nat.{ℕ}
+use native.Mathlib.Omega.{arith}
 use mathlib.Core.Bool.{Bool, true, false, cond}
 use mathlib.Core.List.{List, [], _∷_, _++_}
 use mathlib.Core.Path.{_≡_, refl, sym}
-use native.Mathlib.Omega.{arith}
-use Prim.Native.Nat.{ℕ}
-use Rattle.std.specs.declared.option.Option.{Option}
 use Rattle.std.specs.declared.option.Option.the-variants.{Some, None}
+use Rattle.std.specs.declared.option.Option.{Option}
 use Rattle.std.specs.declared.result.Result.the-variants.{Ok, Err}
 use Rattle.protocol.specs.declared.refusal.Refusal.{Refusal}
 use Rattle.protocol.specs.Refusals.{Question, first-no, granted, answer}
-
-pub none-some : {A : Type 0} (r : Refusal) → _≡_ {A = Option Refusal} None (Some r) → A
-none-some r e = let z : _≡_ {A = ℕ} 0 1 = cc in absurd (omega arith)
+use Rattle.protocol.proofs.Options.{none-some}
 
 -- no question of the first list is answered no
 pub then-asked : (xs ys : List Question) → first-no xs ≡ None → first-no (xs ++ ys) ≡ first-no ys

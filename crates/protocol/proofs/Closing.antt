@@ -4,8 +4,8 @@ use native.Mathlib.Omega.{arith}
 use mathlib.Core.Bool.{Bool, true, false, _&&_, cond}
 use mathlib.Core.Path.{_≡_, refl, sym, subst}
 use Rattle.std.proofs.shelf.Tests.{and-parts, both-ways, eqb-true}
-use Rattle.std.specs.declared.option.Option.{Option}
 use Rattle.std.specs.declared.option.Option.the-variants.{Some, None}
+use Rattle.std.specs.declared.option.Option.{Option}
 use Rattle.protocol.specs.declared.value.Value.{Value}
 use Rattle.protocol.specs.declared.value.Value.the-variants.{Hold, Release}
 use Rattle.protocol.specs.declared.value.Values.{Values}
@@ -15,13 +15,7 @@ use Rattle.protocol.specs.Facts.{Facts}
 use Rattle.protocol.specs.Values.{same-value, values-with, has}
 use Rattle.protocol.specs.Processes.{Process, any-aux}
 use Rattle.protocol.specs.Rounds.{in-bin, bin, single, double, values}
-
--- there is nothing, or something
-pub none-some : {A B : Type 0} (x : A) → None ≡ Some x → B
-none-some x e = let z : _≡_ {A = ℕ} 0 1 = cc in absurd (omega arith)
-
-pub some-same : {A : Type 0} (x y : A) → Some x ≡ Some y → x ≡ y
-some-same x y e = cc
+use Rattle.protocol.proofs.Options.{none-some, some-same}
 
 -- values that test as the same are the same
 pub same-values : (v w : Value) → same-value v w ≡ true → v ≡ w

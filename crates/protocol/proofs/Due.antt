@@ -1,25 +1,26 @@
 -- What the outcome of a step says of the process that makes it.
 use Prim.Native.Nat.{ℕ, zero, suc, _+_, _≤_, _<_}
-use native.Mathlib.Omega.{arith}
 use native.Mathlib.Decide.{decLt}
+use native.Mathlib.Omega.{arith}
 use mathlib.Core.Bool.{Bool, true, false, not, _&&_, cond}
 use mathlib.Core.Path.{_≡_, refl, sym, _∙_, subst}
 use lib.Dec.{leb}
 use Rattle.std.proofs.shelf.Tests.{and-parts, and-from, both-ways, leb-true, leb-false, not-from-false}
-use Rattle.std.specs.declared.option.Option.{Option}
 use Rattle.std.specs.declared.option.Option.the-variants.{Some, None}
+use Rattle.std.specs.declared.option.Option.{Option}
 use Rattle.protocol.specs.declared.value.Value.{Value}
 use Rattle.protocol.specs.declared.value.Value.the-variants.{Hold, Release}
 use Rattle.protocol.specs.declared.value.Values.{Values}
 use Rattle.protocol.specs.declared.payload.Payload.the-variants as payload
 use Rattle.protocol.specs.declared.outcome.Outcome.{Outcome}
 use Rattle.protocol.specs.declared.outcome.Outcome.the-variants.{Echo, Est, Aux, Close, Idle}
+use Rattle.protocol.specs.Options.{first-of}
 use Rattle.protocol.specs.Facts.{Facts}
 use Rattle.protocol.specs.Processes.{Process}
-use Rattle.protocol.specs.Options.{first-of}
 use Rattle.protocol.specs.Rounds.{bin, values, decides}
 use Rattle.protocol.specs.Steps.{echo-due, echo-from, est-rule, aux-sent, aux-rule, close-rule, own-rules, or-idle, outcome}
-use Rattle.protocol.proofs.Closing.{none-some, some-same, values-bin}
+use Rattle.protocol.proofs.Closing.{values-bin}
+use Rattle.protocol.proofs.Options.{none-some, some-same}
 
 module _ (f : Facts) (last : ℕ) (x : Process) where
   -- all echoes of round r are sent

@@ -1,19 +1,17 @@
 -- Every call keeps the invariant: one lemma for each.
 use Prim.Native.Nat.{ℕ, zero, suc, _≤_, _<_}
 use native.Mathlib.Omega.{arith}
-use mathlib.Core.Bool.{Bool, true, false, _||_, cond}
+use mathlib.Core.Bool.{Bool, true, false, cond}
 use mathlib.Core.List.{List, _∷_}
 use mathlib.Core.Logic.{_⊎_, inl, inr, _≢_}
 use mathlib.Core.Path.{_≡_, refl, sym, _∙_, ap, subst}
-use Rattle.std.proofs.shelf.Tests.{both-ways, or-cases}
-use Rattle.std.specs.declared.option.Option.{Option}
+use Rattle.std.proofs.shelf.Tests.{both-ways}
 use Rattle.std.specs.declared.option.Option.the-variants.{Some, None}
+use Rattle.std.specs.declared.option.Option.{Option}
 use Rattle.std.specs.declared.result.Result.the-variants.{Ok, Err}
 use Rattle.protocol.specs.declared.refusal.Refusal.{Refusal}
 use Rattle.protocol.specs.declared.value.Value.{Value}
-use Rattle.protocol.specs.declared.value.Value.the-variants.{Hold, Release}
 use Rattle.protocol.specs.declared.value.Values.{Values}
-use Rattle.protocol.specs.declared.value.Values.the-variants.{Only, Both}
 use Rattle.protocol.specs.declared.payload.Payload.{Payload}
 use Rattle.protocol.specs.declared.payload.Payload.the-variants as payload
 use Rattle.protocol.specs.declared.outcome.Outcome.{Outcome}
@@ -21,7 +19,7 @@ use Rattle.protocol.specs.declared.outcome.Outcome.the-variants.{Echo, Est, Au
 use Rattle.protocol.specs.Refusals.{first-no, granted, changed}
 use Rattle.protocol.specs.Values.{value-number, value-of}
 use Rattle.protocol.specs.Messages.{Message, code, message-of, message}
-use Rattle.protocol.specs.Processes.{Process, proposing, sending, any-aux, known, noting, heard}
+use Rattle.protocol.specs.Processes.{Process, proposing, sending, known, noting, heard}
 use Rattle.protocol.specs.Rounds.{decides}
 use Rattle.protocol.specs.Outcomes.{after, says}
 use Rattle.protocol.specs.Wires.{pool, waiting, one-more, one-less}
@@ -31,11 +29,13 @@ use Rattle.protocol.specs.Play.{put, landing, delivered, outcome-of, questions
 use Rattle.protocol.specs.Histories.{State, May-take, Does, Event, event, Proposed}
 use Rattle.protocol.proofs.Agreement.{held-believed}
 use Rattle.protocol.proofs.Asked.{Admitted, admitted-message, landing-is, lands, proposes, steps, plants, delivers}
-use Rattle.protocol.proofs.Closing.{none-some, bin-has}
+use Rattle.protocol.proofs.Closing.{bin-has}
 use Rattle.protocol.proofs.Codes.{same-code, message-of-code, code-of-message}
+use Rattle.protocol.proofs.Contents.{any-which}
 use Rattle.protocol.proofs.Due.{Due, due-echo, due-est, due-aux, due-close, nothing-due, due}
 use Rattle.protocol.proofs.Invariant.{Closes, Entered, Round, Own, Between, Invariant}
 use Rattle.protocol.proofs.OneProcess.{Unmoved, May-send, own-noted, own-same, own-sent, own-propose, own-close}
+use Rattle.protocol.proofs.Options.{none-some}
 use Rattle.protocol.proofs.Sayings.{marked-old, marked-new, marked-cases, heard-old, heard-new, heard-cases}
 use Rattle.protocol.proofs.Tables.{put-elim, put-field, more-old, more-cases}
 use Rattle.protocol.proofs.TwoProcesses.{writable-in, still, said-to-all, noted-one, dropped}
@@ -70,25 +70,20 @@ unmoved-by-other h i j o ne =
     (λ v p. let q = ap (λ (t : Event). t .answer) p in let z : _≡_ {A = ℕ} 0 1 = cc in omega arith)
     (λ r c d p. let q = ap (λ (t : Event). t .call) p in ne (cc))
 
--- a message that is planted or delivered, for any process
-unmoved-by-plant : (h : List Event) (m : Message) (a : Answer) (j : ℕ) → Unmoved h (event (plant m) a ∷ h) j
-unmoved-by-plant h m a j =
-    unmoved h (event (plant m) a) j
-    (λ v p. let q = ap (λ (t : Event). t .call) p in let z : _≡_ {A = ℕ} 0 1 = cc in omega arith)
-    (λ r c d p. let q = ap (λ (t : Event). t .call) p in let z : _≡_ {A = ℕ} 0 1 = cc in omega arith)
+-- a call that neither proposes nor steps, for any process
+abbrev moves : Call → Bool
+moves (propose i v) = true
+moves (step i) = true
+moves (plant m) = false
+moves (deliver k) = false
+moves (standing i) = false
 
-unmoved-by-delivery : (h : List Event) (k : ℕ) (a : Answer) (j : ℕ) → Unmoved h (event (deliver k) a ∷ h) j
-unmoved-by-delivery h k a j =
-    unmoved h (event (deliver k) a) j
-    (λ v p. let q = ap (λ (t : Event). t .call) p in let z : _≡_ {A = ℕ} 0 1 = cc in omega arith)
-    (λ r c d p. let q = ap (λ (t : Event). t .call) p in let z : _≡_ {A = ℕ} 0 1 = cc in omega arith)
+unmoved-by-others : (h : List Event) (c : Call) (a : Answer) (j : ℕ) → moves c ≡ false → Unmoved h (event c a ∷ h) j
+unmoved-by-others h c a j still =
+    unmoved h (event c a) j (λ v p. both-ways (moves c) still (ap (λ (t : Event). moves (t .call)) (sym p)))
+    (λ r u d p. both-ways (moves c) still (ap (λ (t : Event). moves (t .call)) (sym p)))
 
-unmoved-by-standing : (h : List Event) (i : ℕ) (a : Answer) (j : ℕ) → Unmoved h (event (standing i) a ∷ h) j
-unmoved-by-standing h i a j =
-    unmoved h (event (standing i) a) j
-    (λ v p. let q = ap (λ (t : Event). t .call) p in let z : _≡_ {A = ℕ} 0 1 = cc in omega arith)
-    (λ r c d p. let q = ap (λ (t : Event). t .call) p in let z : _≡_ {A = ℕ} 0 1 = cc in omega arith)
-
+-- a refused call
 unmoved-by-refusal : (h : List Event) (c : Call) (q : Refusal) (j : ℕ) → Unmoved h (event c (Err q) ∷ h) j
 unmoved-by-refusal h c q j =
     unmoved h (event c (Err q)) j
@@ -100,21 +95,6 @@ value-back : (v : ℕ) → v ≤ 1 → value-number (value-of v) ≡ v
 value-back zero l = refl
 value-back (suc zero) l = refl
 value-back (suc (suc v)) l = absurd (omega arith)
-
--- who is known by some AUX was noted with one
-any-content : (x : Process) (r s : ℕ) → any-aux x r s ≡ true → (c : Values) × (x .noted r (payload.Aux c) s ≡ true)
-any-content x r s e = go (or-cases (at (Only Hold)) (at (Only Release) || at Both) e)
-  where
-    at : Values → Bool
-    at c = x .noted r (payload.Aux c) s
-
-    two : (at (Only Release) ≡ true) ⊎ (at Both ≡ true) → (c : Values) × (at c ≡ true)
-    two (inl k) = (Only Release, k)
-    two (inr k) = (Both, k)
-
-    go : (at (Only Hold) ≡ true) ⊎ ((at (Only Release) || at Both) ≡ true) → (c : Values) × (at c ≡ true)
-    go (inl k) = (Only Hold, k)
-    go (inr k) = two (or-cases (at (Only Release)) (at Both) k)
 
 module _ (S : Setting) (F : Fair S) (h : List Event) (s : State) (I : Invariant S h s) where
   -- the processes and the wire stay as they are
@@ -213,7 +193,7 @@ module _ (S : Setting) (F : Fair S) (h : List Event) (s : State) (I : Invariant 
       → Invariant S (event (plant m) a ∷ h)
       (record { processes = s .processes; wire = record { copies = one-more (code m) (s .wire .copies); places = s .wire .places } })
   plant-kept m p a ls ld bad A = record {
-    own = λ j cj. own-same S F h _ j (s .processes j) (unmoved-by-plant h m a j) (I .own j cj);
+    own = λ j cj. own-same S F h _ j (s .processes j) (unmoved-by-others h (plant m) a j refl) (I .own j cj);
     between = λ i j ci cj.
         still S (s .wire .copies) (one-more (code m) (s .wire .copies)) i j (s .processes i) (s .processes i) (s .processes j)
         (s .processes j) refl refl
@@ -243,16 +223,13 @@ module _ (S : Setting) (F : Fair S) (h : List Event) (s : State) (I : Invariant 
   note-kept n k d r p a w lk cd R = record {
     own =
         own-put (event (deliver n) a) d (noting k r p (s .processes d))
-        (own-noted S F h _ d (s .processes d) (unmoved-by-delivery h n a d) (I .own d cd) (noting k r p (s .processes d) .noted) old)
-        (λ j _. unmoved-by-delivery h n a j);
+        (own-noted S F h _ d (s .processes d) (unmoved-by-others h (deliver n) a d refl) (I .own d cd) (noting k r p (s .processes d) .noted) old)
+        (λ j _. unmoved-by-others h (deliver n) a j refl);
     between = λ i j ci cj.
         noted-one S (F .in-range) (s .wire .copies) (s .processes) k d r p (noting k r p (s .processes d)) w lk (cd .below) R refl old
         new at i j ci cj (λ q o e. I .own i ci .in-rounds q o e) (I .between i j ci cj);
   }
     where
-      x : Process
-      x = s .processes d
-
       old : (q : ℕ) (o : Payload) (t : ℕ) → s .processes d .noted q o t ≡ true → noting k r p (s .processes d) .noted q o t ≡ true
       old q o t e = go (known k r p (s .processes d))
         where
@@ -274,7 +251,7 @@ module _ (S : Setting) (F : Fair S) (h : List Event) (s : State) (I : Invariant 
           → s .processes d .noted r o k ≡ true
       said (payload.Est v) w ck e = e
       said (payload.Aux c) w ck e =
-          let t = any-content (s .processes d) r k e in
+          let t = any-which (λ u. s .processes d .noted r (payload.Aux u) k) e in
           let B = I .between k d ck cd in
           let q = I .own k ck .aux-once r (t .0) c (B .notes r (payload.Aux (t .0)) (t .1)) (B .waits r (payload.Aux c) R w) in
           subst (λ (u : Values). s .processes d .noted r (payload.Aux u) k ≡ true) q (t .1)
@@ -292,7 +269,7 @@ module _ (S : Setting) (F : Fair S) (h : List Event) (s : State) (I : Invariant 
       → Invariant S (event (deliver n) a ∷ h)
       (record { processes = s .processes; wire = record { copies = one-less c (s .wire .copies); places = s .wire .places } })
   drop-kept n c a none = record {
-    own = λ j cj. own-same S F h _ j (s .processes j) (unmoved-by-delivery h n a j) (I .own j cj);
+    own = λ j cj. own-same S F h _ j (s .processes j) (unmoved-by-others h (deliver n) a j refl) (I .own j cj);
     between = λ i j ci cj.
         dropped S (s .wire .copies) c i j (s .processes i) (s .processes j) (λ q o e. other i j ci cj q o (I .own i ci .in-rounds q o e))
         (I .between i j ci cj);
@@ -355,7 +332,7 @@ module _ (S : Setting) (F : Fair S) (h : List Event) (s : State) (I : Invariant 
   granted-kept x T (plant m) e =
       let t = plants (pool x) S s m e in plant-kept m (t .payload) (Ok done) (t .sender) (t .receiver) (t .faulty) (t .admits)
   granted-kept x T (deliver n) e = deliver-kept n x _ (T (delivers (pool x) S s n e) .1)
-  granted-kept x T (standing i) e = stays _ (unmoved-by-standing h i _)
+  granted-kept x T (standing i) e = stays _ (λ j. unmoved-by-others h (standing i) _ j refl)
 
   -- any call
   call-kept :

@@ -1,8 +1,10 @@
+pub mod Options
 pub mod Asking
 pub mod Counting
 pub mod Codes
 pub mod Sayings
 pub mod Tables
+pub mod Contents
 pub mod Closing
 pub mod Due
 pub mod Invariant

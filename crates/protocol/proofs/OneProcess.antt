@@ -1,12 +1,12 @@
 -- How a call keeps what is so of one correct process.
 use Prim.Native.Nat.{ℕ, suc, _≤_, _<_}
-use native.Mathlib.Omega.{arith}
 use native.Mathlib.Decide.{decLt}
-use mathlib.Core.Bool.{Bool, true, false, _||_}
+use native.Mathlib.Omega.{arith}
+use mathlib.Core.Bool.{Bool, true, false}
 use mathlib.Core.List.{List, _∷_}
 use mathlib.Core.Logic.{_⊎_, inl, inr}
 use mathlib.Core.Path.{_≡_, refl, sym, _∙_, ap, subst}
-use Rattle.std.proofs.shelf.Tests.{and-parts, or-left, or-right, or-cases, both-ways}
+use Rattle.std.proofs.shelf.Tests.{and-parts, both-ways}
 use Rattle.std.specs.declared.option.Option.the-variants.{Some}
 use Rattle.std.specs.declared.result.Result.the-variants.{Ok}
 use Rattle.protocol.specs.declared.value.Value.{Value}
@@ -16,12 +16,12 @@ use Rattle.protocol.specs.declared.value.Values.the-variants.{Only, Both}
 use Rattle.protocol.specs.declared.payload.Payload.{Payload}
 use Rattle.protocol.specs.declared.payload.Payload.the-variants.{Est, Aux}
 use Rattle.protocol.specs.declared.outcome.Outcome.the-variants.{Close}
+use Rattle.protocol.specs.Options.{absent}
+use Rattle.protocol.specs.Sets.{Set}
 use Rattle.protocol.specs.Facts.{Facts}
 use Rattle.protocol.specs.Laws.{Laws}
-use Rattle.protocol.specs.Sets.{Set}
 use Rattle.protocol.specs.Values.{value-number, same-value, has, favoured}
 use Rattle.protocol.specs.Processes.{Process, proposing, sending, any-aux, marked}
-use Rattle.protocol.specs.Options.{absent}
 use Rattle.protocol.specs.Rounds.{in-bin, values, decides, new-estimate}
 use Rattle.protocol.specs.Steps.{aux-sent}
 use Rattle.protocol.specs.Outcomes.{after}
@@ -29,9 +29,10 @@ use Rattle.protocol.specs.Settings.{Setting, Fair}
 use Rattle.protocol.specs.Calls.{propose, step, done, did}
 use Rattle.protocol.specs.Histories.{Event, event, Among, Proposed}
 use Rattle.protocol.proofs.Closing.{Evidence, alone, mixed, same-values, values-evidence}
+use Rattle.protocol.proofs.Contents.{any-by, any-which}
 use Rattle.protocol.proofs.Due.{Est-sent}
 use Rattle.protocol.proofs.Invariant.{Closes, Entered, by-proposal, by-closing, Held, Round, Own}
-use Rattle.protocol.proofs.Progress.{any-of, sent-content}
+use Rattle.protocol.proofs.Progress.{sent-content}
 use Rattle.protocol.proofs.Sayings.{marked-old, marked-cases}
 
 -- a longer history
@@ -71,38 +72,13 @@ evidence-grows f L x x′ more r c (mixed a b k) =
   where
     any : (j : ℕ) → any-aux x r j ≡ true → any-aux x′ r j ≡ true
     any j t =
-        go (or-cases (x .noted r (Aux (Only Hold)) j) (x .noted r (Aux (Only Release)) j || x .noted r (Aux Both) j) t)
-      where
-        at : (c : Values) → x .noted r (Aux c) j ≡ true → any-aux x′ r j ≡ true
-        at c u = any-of x′ r c j (more r (Aux c) j u)
-
-        two : (x .noted r (Aux (Only Release)) j ≡ true) ⊎ (x .noted r (Aux Both) j ≡ true) → any-aux x′ r j ≡ true
-        two (inl u) = at (Only Release) u
-        two (inr u) = at Both u
-
-        go : (x .noted r (Aux (Only Hold)) j ≡ true) ⊎ ((x .noted r (Aux (Only Release)) j || x .noted r (Aux Both) j) ≡ true)
-            → any-aux x′ r j ≡ true
-        go (inl u) = at (Only Hold) u
-        go (inr u) = two (or-cases (x .noted r (Aux (Only Release)) j) (x .noted r (Aux Both) j) u)
+        let c = any-which (λ u. x .noted r (Aux u) j) t in
+        any-by (λ u. x′ .noted r (Aux u) j) (c .0) (more r (Aux (c .0)) j (c .1))
 
 -- AUX of any content is AUX that was sent
 content-sent : (x : Process) (r : ℕ) (c : Values) → x .sent r (Aux c) ≡ true → aux-sent x r ≡ true
 unfolding aux-sent
-content-sent x r c = go c
-  where
-    h : Bool
-    h = x .sent r (Aux (Only Hold))
-
-    l : Bool
-    l = x .sent r (Aux (Only Release))
-
-    b : Bool
-    b = x .sent r (Aux Both)
-
-    go : (c : Values) → x .sent r (Aux c) ≡ true → (h || (l || b)) ≡ true
-    go (Only Hold) k = or-left h (l || b) k
-    go (Only Release) k = or-right h (l || b) (or-left l b k)
-    go Both k = or-right h (l || b) (or-right l b k)
+content-sent x r = any-by (λ c. x .sent r (Aux c))
 
 -- the same process with more noted
 abbrev pub with-noted : Process → (ℕ → Payload → Set) → Process

@@ -6,16 +6,16 @@ use mathlib.Core.List.{List, [], _∷_}
 use mathlib.Core.Path.{_≡_, refl, sym, _∙_, ap, subst}
 use lib.Dec.{eqb, ltb}
 use Rattle.std.proofs.shelf.Tests.{lt-ltb, ltb-true, ltb-false, cond-true, cond-false, ne-eqb}
-use Rattle.std.specs.declared.option.Option.{Option}
 use Rattle.std.specs.declared.option.Option.the-variants.{Some, None}
+use Rattle.std.specs.declared.option.Option.{Option}
 use Rattle.protocol.specs.declared.refusal.Refusal.{Refusal}
 use Rattle.protocol.specs.declared.payload.Payload.{Payload}
 use Rattle.protocol.specs.declared.payload.Payload.the-variants as payload
 use Rattle.protocol.specs.declared.outcome.Outcome.{Outcome}
 use Rattle.protocol.specs.Refusals.{Question, first-no, answer, leaves, changed}
+use Rattle.protocol.specs.Options.{absent}
 use Rattle.protocol.specs.Messages.{Message, code, message}
 use Rattle.protocol.specs.Processes.{Process}
-use Rattle.protocol.specs.Options.{absent}
 use Rattle.protocol.specs.Outcomes.{after, says}
 use Rattle.protocol.specs.Wires.{Wire, Wire-laws, Pool, pooled, pool, waiting, free, one-more, one-less}
 use Rattle.protocol.specs.Settings.{Setting, In-range}
@@ -24,11 +24,11 @@ use Rattle.protocol.specs.Play.{Configuration, put, asked, outcome-of, needed,
 use Rattle.protocol.specs.Histories.{State, state-of, May-take, Does, Event, event, Leads, begins, goes}
 use Rattle.protocol.specs.Companions.{Every-wire-plays, history, final, Every-play-keeps-promise}
 use Rattle.protocol.proofs.Asked.{steps, plants, delivers, admitted-message}
-use Rattle.protocol.proofs.Closing.{none-some, some-same}
 use Rattle.protocol.proofs.Codes.{code-below}
 use Rattle.protocol.proofs.Copies.{waiting-same, waiting-more}
 use Rattle.protocol.proofs.Due.{Due, due-echo, due-est, due-aux, due-close, nothing-due, due}
 use Rattle.protocol.proofs.Invariant.{Round}
+use Rattle.protocol.proofs.Options.{none-some, some-same}
 use Rattle.protocol.proofs.Theorem.{never-part}
 use Rattle.protocol.proofs.TwoProcesses.{writable-in}
 

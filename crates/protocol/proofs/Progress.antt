@@ -1,12 +1,12 @@
 -- No deadlock, from the invariant alone.
 use Prim.Native.Nat.{ℕ, zero, suc, _≤_, _<_}
-use native.Mathlib.Omega.{arith}
 use native.Mathlib.Decide.{decLt, ℕ-discrete}
-use mathlib.Core.Bool.{Bool, true, false, not, _||_}
+use native.Mathlib.Omega.{arith}
+use mathlib.Core.Bool.{Bool, true, false, not}
 use mathlib.Core.List.{List}
 use mathlib.Core.Logic.{_⊎_, inl, inr}
 use mathlib.Core.Path.{_≡_, refl, sym, subst}
-use Rattle.std.proofs.shelf.Tests.{and-parts, and-from, or-left, or-right, or-cases, not-true, both-ways, cases-bool}
+use Rattle.std.proofs.shelf.Tests.{and-parts, and-from, not-true, both-ways, cases-bool}
 use Rattle.std.specs.declared.option.Option.the-variants.{None}
 use Rattle.protocol.specs.declared.value.Value.{Value}
 use Rattle.protocol.specs.declared.value.Value.the-variants.{Hold, Release}
@@ -15,50 +15,24 @@ use Rattle.protocol.specs.declared.value.Values.the-variants.{Only, Both}
 use Rattle.protocol.specs.declared.payload.Payload.{Payload}
 use Rattle.protocol.specs.declared.payload.Payload.the-variants.{Est, Aux}
 use Rattle.protocol.specs.Sets.{Set, less, all-less}
-use Rattle.protocol.specs.Messages.{code, message}
 use Rattle.protocol.specs.Values.{has}
+use Rattle.protocol.specs.Messages.{code, message}
 use Rattle.protocol.specs.Processes.{Process, any-aux}
 use Rattle.protocol.specs.Rounds.{in-bin, values}
 use Rattle.protocol.specs.Steps.{aux-sent}
 use Rattle.protocol.specs.Settings.{Setting, Fair, Correct}
 use Rattle.protocol.specs.Histories.{State, Event}
 use Rattle.protocol.specs.Promise.{No-message-waits}
-use Rattle.protocol.proofs.Codes.{code-below, writable}
 use Rattle.protocol.proofs.Closing.{none-single, none-double, bin-some}
+use Rattle.protocol.proofs.Codes.{code-below, writable}
+use Rattle.protocol.proofs.Contents.{any-by, any-which}
 use Rattle.protocol.proofs.Due.{Rests}
 use Rattle.protocol.proofs.Invariant.{Round, Invariant}
 
 -- AUX that was sent has a content
 pub sent-content : (x : Process) (r : ℕ) → aux-sent x r ≡ true → (c : Values) × (x .sent r (Aux c) ≡ true)
 unfolding aux-sent
-sent-content x r e = go (or-cases (x .sent r (Aux (Only Hold))) (x .sent r (Aux (Only Release)) || x .sent r (Aux Both)) e)
-  where
-    rest : (x .sent r (Aux (Only Release)) ≡ true) ⊎ (x .sent r (Aux Both) ≡ true) → (c : Values) × (x .sent r (Aux c) ≡ true)
-    rest (inl k) = (Only Release, k)
-    rest (inr k) = (Both, k)
-
-    go : (x .sent r (Aux (Only Hold)) ≡ true) ⊎ ((x .sent r (Aux (Only Release)) || x .sent r (Aux Both)) ≡ true)
-        → (c : Values) × (x .sent r (Aux c) ≡ true)
-    go (inl k) = (Only Hold, k)
-    go (inr k) = rest (or-cases (x .sent r (Aux (Only Release))) (x .sent r (Aux Both)) k)
-
--- who is noted with some AUX is noted with any
-pub any-of : (x : Process) (r : ℕ) (c : Values) (j : ℕ) → x .noted r (Aux c) j ≡ true → any-aux x r j ≡ true
-any-of x r c j = go c
-  where
-    h : Bool
-    h = x .noted r (Aux (Only Hold)) j
-
-    l : Bool
-    l = x .noted r (Aux (Only Release)) j
-
-    b : Bool
-    b = x .noted r (Aux Both) j
-
-    go : (c : Values) → x .noted r (Aux c) j ≡ true → (h || (l || b)) ≡ true
-    go (Only Hold) k = or-left h (l || b) k
-    go (Only Release) k = or-right h (l || b) (or-left l b k)
-    go Both k = or-right h (l || b) (or-right l b k)
+sent-content x r = any-which (λ c. x .sent r (Aux c))
 
 -- a set that lacks a value is the other one alone
 lone : (c : Values) (v w : Value) → has c w ≡ false → has (Only v) w ≡ false → c ≡ Only v
@@ -222,7 +196,7 @@ module _ (S : Setting) (F : Fair S) (h : List Event) (s : State) (I : Invariant 
         any j l t =
             let cj = correct-by j l t in
             let c = sent-aux j cj in
-            any-of (s .processes m) r (c .0) j (heard j m r (Aux (c .0)) cj cm (c .1))
+            any-by (λ u. s .processes m .noted r (Aux u) j) (c .0) (heard j m r (Aux (c .0)) cj cm (c .1))
 
         both : in-bin (S .facts) (s .processes m) r Hold ≡ true → in-bin (S .facts) (s .processes m) r Release ≡ true → ⊥
         both a b =

@@ -6,9 +6,9 @@ use mathlib.Core.Path.{_≡_, refl, sym, subst}
 use lib.Dec.{eqb}
 use Rattle.std.proofs.shelf.Tests.{eqb-true, eq-eqb, and-parts, and-from, or-cases, or-left, or-right}
 use Rattle.protocol.specs.declared.payload.Payload.{Payload}
+use Rattle.protocol.specs.Sets.{Set, joined}
 use Rattle.protocol.specs.Messages.{payload-kind, payload-content}
 use Rattle.protocol.specs.Processes.{same-saying, marked, heard}
-use Rattle.protocol.specs.Sets.{Set, joined}
 use Rattle.protocol.proofs.Codes.{same-payload}
 
 pub same-itself : (r : ℕ) (p : Payload) → same-saying r p r p ≡ true

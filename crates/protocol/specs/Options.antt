@@ -1,7 +1,7 @@
 -- Things that may be absent.
 use mathlib.Core.Bool.{Bool, true, false}
-use Rattle.std.specs.declared.option.Option.{Option}
 use Rattle.std.specs.declared.option.Option.the-variants.{Some, None}
+use Rattle.std.specs.declared.option.Option.{Option}
 
 -- nothing is there
 abbrev pub absent : {A : Type 0} → Option A → Bool

@@ -2,8 +2,8 @@
 use Prim.Native.Nat.{ℕ, suc}
 use mathlib.Core.Bool.{cond}
 use mathlib.Core.List.{List, [], _∷_}
-use Rattle.std.specs.declared.option.Option.{Option}
 use Rattle.std.specs.declared.option.Option.the-variants.{Some, None}
+use Rattle.std.specs.declared.option.Option.{Option}
 use Rattle.protocol.specs.declared.payload.Payload.{Payload}
 use Rattle.protocol.specs.declared.payload.Payload.the-variants as payload
 use Rattle.protocol.specs.declared.outcome.Outcome.{Outcome}

@@ -3,13 +3,13 @@ use Prim.Native.Nat.{ℕ, zero, suc}
 use mathlib.Core.Bool.{Bool, false, not, _&&_, cond}
 use mathlib.Core.List.{List, [], _∷_}
 use lib.Dec.{eqb, leb, ltb}
-use Rattle.std.specs.declared.option.Option.{Option}
 use Rattle.std.specs.declared.option.Option.the-variants.{Some, None}
+use Rattle.std.specs.declared.option.Option.{Option}
 use Rattle.protocol.specs.declared.refusal.Layer.the-variants as layer
 use Rattle.protocol.specs.declared.payload.Payload.{Payload}
 use Rattle.protocol.specs.declared.outcome.Outcome.{Outcome}
-use Rattle.protocol.specs.Options.{absent}
 use Rattle.protocol.specs.Refusals.{Question, ask, answer, leaves}
+use Rattle.protocol.specs.Options.{absent}
 use Rattle.protocol.specs.Values.{value-of, number-or-two}
 use Rattle.protocol.specs.Messages.{Message, code, message-of, payload-of, message}
 use Rattle.protocol.specs.Processes.{Process, proposing, noting, grows}

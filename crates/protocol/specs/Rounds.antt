@@ -1,8 +1,8 @@
 -- One round of a correct process: its bin, its values, and what they lead to.
 use Prim.Native.Nat.{ℕ}
 use mathlib.Core.Bool.{Bool, false, _&&_, cond}
-use Rattle.std.specs.declared.option.Option.{Option}
 use Rattle.std.specs.declared.option.Option.the-variants.{Some, None}
+use Rattle.std.specs.declared.option.Option.{Option}
 use Rattle.protocol.specs.declared.value.Value.{Value}
 use Rattle.protocol.specs.declared.value.Value.the-variants.{Hold, Release}
 use Rattle.protocol.specs.declared.value.Values.{Values}
