@@ -1,4 +1,4 @@
--- What stands beside the promise: that codes can be read back, that every call has an answer, that refusals are exact, and that every play is a history.
+-- Beside the promise: codes can be read back, every call has an answer, refusals are exact, every play is a history.
 use Prim.Native.Nat.{ℕ, _<_}
 use mathlib.Core.List.{List, [], _∷_}
 use mathlib.Core.Path.{_≡_}
