@@ -18,7 +18,7 @@ value-number Release = 1
 abbrev pub value-of : ℕ → Value
 value-of v = cond (eqb v 0) Hold Release
 
--- the number of a value that may be absent
+-- the number of a value, or 2 if it is absent
 abbrev pub number-or-two : Option Value → ℕ
 number-or-two (Some v) = value-number v
 number-or-two None = 2

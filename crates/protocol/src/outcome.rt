@@ -5,7 +5,7 @@ use super::value::Values;
 /// The rule that a step followed, with the numbers that it tells.
 #[derive(Clone, Copy)]
 pub enum Outcome {
-    /// it sent a value that it believes
+    /// it sent on a value that a believed set of processes sent
     Echo {
         round: u8,
         value: Value,
