@@ -108,10 +108,7 @@ module _ (S : Setting) (F : Fair S) (h : List Event) (s : State) (I : Invariant 
           ∙ (leaves-with i j k u c d ci cj (subst (λ (t : ℕ). Closes h i t u true) r-is a) b′
           ∙ ap favoured (sym r-is))
 
-  -- what was decided was held in that round
-  decided-held : (i r : ℕ) (v : Value) → Correct S i → Closes h i r (Only v) true → Held S h r v
-  decided-held i r v ci a = left-held i r (Only v) true ci a
-
+  -- what was decided is what the round favours
   decided-favoured : (i r : ℕ) (v : Value) → Correct S i → Closes h i r (Only v) true → v ≡ favoured r
   decided-favoured i r v ci a = let e = I .own i ci .favours r (Only v) a in cc
 
@@ -126,10 +123,10 @@ module _ (S : Setting) (F : Fair S) (h : List Event) (s : State) (I : Invariant 
       ew = decided-favoured j q w cj b
 
       hv : Held S h r v
-      hv = decided-held i r v ci a
+      hv = left-held i r (Only v) true ci a
 
       hw : Held S h q w
-      hw = decided-held j q w cj b
+      hw = left-held j q (Only w) true cj b
 
       go : Dec (r < q) → Dec (q < r) → v ≡ w
       go (yes l) k = ev ∙ sym (locked i r (Only v) ci a q l (hw .who) w (hw .correct) (hw .entered))
@@ -155,5 +152,5 @@ module _ (S : Setting) (F : Fair S) (h : List Event) (s : State) (I : Invariant 
   pub validity : Validity S h
   validity i v ci a =
       let p = decided-closes h i v a in
-      let m = decided-held i (p .0) v ci (p .1) in
+      let m = left-held i (p .0) (Only v) true ci (p .1) in
       from-proposal (p .0) v (m .who) (m .correct) (m .entered)

@@ -1,13 +1,11 @@
 -- What a call has been asked that is not refused, and what a message is that is not dropped.
 use Prim.Native.Nat.{ℕ, _≤_, _<_}
-use native.Mathlib.Omega.{arith}
 use mathlib.Core.Bool.{Bool, true, false, not, _&&_, cond}
-use mathlib.Core.Path.{_≡_, refl, sym, _∙_, ap}
+use mathlib.Core.Path.{_≡_, refl, _∙_}
 use lib.Dec.{eqb, leb, ltb}
-use Rattle.std.proofs.shelf.Tests.{and-parts, and-from, not-true, not-from-false, ltb-true, leb-true, eqb-true, lt-ltb, le-leb, cond-true}
+use Rattle.std.proofs.shelf.Tests.{both-ways, and-parts, and-from, not-true, not-from-false, ltb-true, leb-true, eqb-true, lt-ltb, le-leb, cond-true}
 use Rattle.std.specs.declared.option.Option.the-variants.{Some, None}
 use Rattle.std.specs.declared.option.Option.{Option}
-use Rattle.protocol.specs.declared.refusal.Refusal.{Refusal}
 use Rattle.protocol.specs.declared.payload.Payload.{Payload}
 use Rattle.protocol.specs.Refusals.{first-no}
 use Rattle.protocol.specs.Options.{absent}
@@ -16,26 +14,15 @@ use Rattle.protocol.specs.Wires.{Wire, waiting, free}
 use Rattle.protocol.specs.Settings.{Setting, Correct}
 use Rattle.protocol.specs.Calls.{propose, step, plant, deliver}
 use Rattle.protocol.specs.Play.{Configuration, admitted, landing, outcome-of, needed, questions}
+use Rattle.protocol.proofs.Asking.{asked-yes, asked-then}
 use Rattle.protocol.proofs.Codes.{payload-back, payload-numbers}
 use Rattle.protocol.proofs.Invariant.{Round}
 use Rattle.protocol.proofs.Options.{none-some}
 
--- a question that is answered yes, and those that follow
-yes-here : (b : Bool) (q : Refusal) (rest : Option Refusal) → cond b rest (Some q) ≡ None → b ≡ true
-yes-here true q rest e = refl
-yes-here false q rest e = none-some q (sym e)
-
-yes-then : (b : Bool) (q : Refusal) (rest : Option Refusal) → cond b rest (Some q) ≡ None → rest ≡ None
-yes-then true q rest e = e
-yes-then false q rest e = none-some q (sym e)
-
 -- some payload is there
 there : (o : Option Payload) → not (absent o) ≡ true → (p : Payload) × (o ≡ Some p)
 there (Some p) e = (p, refl)
-there None e = absurd (let z = not-true true e in true-false z)
-  where
-    true-false : true ≡ false → ⊥
-    true-false e = let z : _≡_ {A = ℕ} 0 1 = ap (λ (b : Bool). cond b 0 1) e in omega arith
+there None e = absurd (both-ways false refl e)
 
 module _ {A : Type 0} (b : Bool) (o : Option A) (x : A) where
   -- what is there only if a test says so
@@ -44,7 +31,7 @@ module _ {A : Type 0} (b : Bool) (o : Option A) (x : A) where
     where
       go : (t : Bool) → cond t o None ≡ Some x → (t ≡ true) × (o ≡ Some x)
       go true e = (refl, e)
-      go false e = let z : _≡_ {A = ℕ} 0 1 = cc in absurd (omega arith)
+      go false e = none-some x e
 
 -- a message that may be sent, and what it says
 pub record Admitted (S : Setting) (m : Message) (p : Payload) : Type 0 where
@@ -101,17 +88,17 @@ module _ {W : Type 0} (K : Wire W) (S : Setting) (s : Configuration W) where
 
   pub proposes : (i v : ℕ) → first-no (questions K S s (propose i v)) ≡ None → Proposes i v
   proposes i v e =
-      let e1 = yes-then (S .live) _ _ e in
-      let e2 = yes-then (ltb i (S .facts .n)) _ _ e1 in
-      let e3 = yes-then (not (S .faulty i)) _ _ e2 in
-      let e4 = yes-then (leb v 1) _ _ e3 in
+      let e1 = asked-then (S .live) _ _ e in
+      let e2 = asked-then (ltb i (S .facts .n)) _ _ e1 in
+      let e3 = asked-then (not (S .faulty i)) _ _ e2 in
+      let e4 = asked-then (leb v 1) _ _ e3 in
       record {
         correct = record {
-          below = ltb-true i _ (yes-here (ltb i (S .facts .n)) _ _ e1);
-          not-faulty = not-true (S .faulty i) (yes-here (not (S .faulty i)) _ _ e2);
+          below = ltb-true i _ (asked-yes (ltb i (S .facts .n)) _ _ e1);
+          not-faulty = not-true (S .faulty i) (asked-yes (not (S .faulty i)) _ _ e2);
         };
-        value = leb-true v 1 (yes-here (leb v 1) _ _ e3);
-        first = eqb-true _ 0 (yes-here (eqb (s .processes i .round) 0) _ _ e4);
+        value = leb-true v 1 (asked-yes (leb v 1) _ _ e3);
+        first = eqb-true _ 0 (asked-yes (eqb (s .processes i .round) 0) _ _ e4);
       }
 
   -- a process that may make a step
@@ -122,17 +109,17 @@ module _ {W : Type 0} (K : Wire W) (S : Setting) (s : Configuration W) where
 
   pub steps : (i : ℕ) → first-no (questions K S s (step i)) ≡ None → Steps i
   steps i e =
-      let e1 = yes-then (S .live) _ _ e in
-      let e2 = yes-then (ltb i (S .facts .n)) _ _ e1 in
-      let e3 = yes-then (not (S .faulty i)) _ _ e2 in
-      let e4 = yes-then (leb 1 (s .processes i .round)) _ _ e3 in
+      let e1 = asked-then (S .live) _ _ e in
+      let e2 = asked-then (ltb i (S .facts .n)) _ _ e1 in
+      let e3 = asked-then (not (S .faulty i)) _ _ e2 in
+      let e4 = asked-then (leb 1 (s .processes i .round)) _ _ e3 in
       record {
         correct = record {
-          below = ltb-true i _ (yes-here (ltb i (S .facts .n)) _ _ e1);
-          not-faulty = not-true (S .faulty i) (yes-here (not (S .faulty i)) _ _ e2);
+          below = ltb-true i _ (asked-yes (ltb i (S .facts .n)) _ _ e1);
+          not-faulty = not-true (S .faulty i) (asked-yes (not (S .faulty i)) _ _ e2);
         };
-        started = leb-true 1 _ (yes-here (leb 1 (s .processes i .round)) _ _ e3);
-        room = leb-true _ _ (yes-here (leb (needed S (outcome-of S (s .processes) i)) (free K (s .wire))) _ _ e4);
+        started = leb-true 1 _ (asked-yes (leb 1 (s .processes i .round)) _ _ e3);
+        room = leb-true _ _ (asked-yes (leb (needed S (outcome-of S (s .processes) i)) (free K (s .wire))) _ _ e4);
       }
 
   -- a message that may be planted
@@ -147,23 +134,23 @@ module _ {W : Type 0} (K : Wire W) (S : Setting) (s : Configuration W) where
   pub plants : (m : Message) → first-no (questions K S s (plant m)) ≡ None → Plants m
   plants m e =
       let known = ltb (m .sender) (S .facts .n) && ltb (m .receiver) (S .facts .n) in
-      let e1 = yes-then (S .live) _ _ e in
-      let e2 = yes-then known _ _ e1 in
-      let e3 = yes-then (S .faulty (m .sender)) _ _ e2 in
-      let e4 = yes-then (not (absent (admitted S m))) _ _ e3 in
-      let k = and-parts (ltb (m .sender) (S .facts .n)) (ltb (m .receiver) (S .facts .n)) (yes-here known _ _ e1) in
-      let p = there (admitted S m) (yes-here (not (absent (admitted S m))) _ _ e3) in
+      let e1 = asked-then (S .live) _ _ e in
+      let e2 = asked-then known _ _ e1 in
+      let e3 = asked-then (S .faulty (m .sender)) _ _ e2 in
+      let e4 = asked-then (not (absent (admitted S m))) _ _ e3 in
+      let k = and-parts (ltb (m .sender) (S .facts .n)) (ltb (m .receiver) (S .facts .n)) (asked-yes known _ _ e1) in
+      let p = there (admitted S m) (asked-yes (not (absent (admitted S m))) _ _ e3) in
       record {
         sender = ltb-true _ (S .facts .n) (k .0);
         receiver = ltb-true _ (S .facts .n) (k .1);
-        faulty = yes-here (S .faulty (m .sender)) _ _ e2;
+        faulty = asked-yes (S .faulty (m .sender)) _ _ e2;
         payload = p .0;
         admits = admitted-is S m (p .0) (p .1);
-        room = leb-true 1 _ (yes-here (leb 1 (free K (s .wire))) _ _ e4);
+        room = leb-true 1 _ (asked-yes (leb 1 (free K (s .wire))) _ _ e4);
       }
 
   -- a message waits that can be delivered
   pub delivers : (k : ℕ) → first-no (questions K S s (deliver k)) ≡ None → 1 ≤ waiting (K .copies (s .wire))
   delivers k e =
-      let e1 = yes-then (S .live) _ _ e in
-      leb-true 1 _ (yes-here (leb 1 (waiting (K .copies (s .wire)))) _ _ e1)
+      let e1 = asked-then (S .live) _ _ e in
+      leb-true 1 _ (asked-yes (leb 1 (waiting (K .copies (s .wire)))) _ _ e1)

@@ -40,11 +40,16 @@ pub refused-some : {A : Type 0} (o : Option Refusal) (x : A) (r : Refusal) → E
 refused-some None x r e = let w : _≡_ {A = ℕ} 0 1 = cc in absurd (omega arith)
 refused-some (Some q) x r e = cc
 
--- what is known of a last question
-pub asked-yes : (b : Bool) (r : Refusal) → cond b None (Some r) ≡ None → b ≡ true
-asked-yes true r e = refl
-asked-yes false r e = none-some r (sym e)
+-- a question that is answered yes, and those that follow it
+pub asked-yes : (b : Bool) (r : Refusal) (rest : Option Refusal) → cond b rest (Some r) ≡ None → b ≡ true
+asked-yes true r rest e = refl
+asked-yes false r rest e = none-some r (sym e)
 
+pub asked-then : (b : Bool) (r : Refusal) (rest : Option Refusal) → cond b rest (Some r) ≡ None → rest ≡ None
+asked-then true r rest e = e
+asked-then false r rest e = none-some r (sym e)
+
+-- a last question that is answered no
 pub asked-no : (b : Bool) (q r : Refusal) → cond b None (Some q) ≡ Some r → (b ≡ false) × (q ≡ r)
 asked-no true q r e = none-some r e
 asked-no false q r e = (refl, cc)

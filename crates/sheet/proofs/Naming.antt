@@ -80,7 +80,7 @@ module _ (r : Roll) (f i : ℕ) (now : Roll) (same : now ≡ all-named r (f % 2 
       → next ≡ leaves (name-questions now i) now (named now i)
       → (next ≡ all-named r (f % 2 ^ (i + 1))) × (members-below (r .size) (bits f) (i + 1) ≡ true)
   named-more e next a left =
-      let within : ltb i (now .size) ≡ true = asked-yes (ltb i (now .size)) _ (granted-none _ (tt {0}) (tt {0}) a .0) in
+      let within : ltb i (now .size) ≡ true = asked-yes (ltb i (now .size)) _ _ (granted-none _ (tt {0}) (tt {0}) a .0) in
       let done : next ≡ named now i = rw within at left in (
         done ∙ ap (λ x. named x i) same ∙ ap (all-named r) (low-yes f i e),
         below-more (r .size) (bits f) i below (or-right (not (bits f i)) (ltb i (r .size)) (rw size-is at within)),
