@@ -1,4 +1,6 @@
 //! The worked examples, proved as one list, and two histories, played in full.
+#![tactic(auto)]
+
 ghost use Rattle.std.specs.List.{AllByRecursion as All};
 ghost use Rattle.examples.specs.Examples.{examples, Holds};
 ghost use Rattle.examples.specs.Histories.{Happens, alone, alone_decides, outvoted, outvoted_decides};

@@ -1,4 +1,2 @@
 pub mod Marking
-pub mod Arithmetic
 pub mod Fairness
-pub mod Lawful

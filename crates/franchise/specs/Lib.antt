@@ -2,3 +2,5 @@ pub mod Marks
 pub mod Weights
 pub mod Polls
 pub mod Refused
+pub mod Arithmetic
+pub mod Lawful

@@ -4,7 +4,7 @@ ghost use Rattle.protocol.specs.Refusals.{answer, told};
 ghost use Rattle.franchise.specs.Marks.{set_of};
 ghost use Rattle.franchise.specs.Polls.{heads as heads_poll, tally as tally_of, facts_of};
 ghost use Rattle.franchise.specs.Refused.{heads_questions, refusal_of};
-ghost use Rattle.std.proofs.Common.{rules, arith};
+ghost use Rattle.franchise.specs.Lawful.{heads_laws};
 
 use super::fault::FranchiseFault;
 use super::laws::Franchise;
@@ -52,19 +52,19 @@ impl Heads {
 impl Franchise for Heads {
     ghost facts = { λ h. facts_of (heads_poll h.size h.threshold) };
 
-    ghost parts = { first_of (Prim.search rules, Prim.grind (arith, Self.row.coded.inj)) };
+    ghost parts = { λ x. (heads_laws x.size x.threshold x.few.1).parts };
 
-    ghost growth = { first_of (Prim.search rules, Prim.grind (arith, Self.row.coded.inj)) };
+    ghost growth = { λ x. (heads_laws x.size x.threshold x.few.1).growth };
 
-    ghost outside = { first_of (Prim.search rules, Prim.grind (arith, Self.row.coded.inj)) };
+    ghost outside = { λ x. (heads_laws x.size x.threshold x.few.1).outside };
 
-    ghost remains = { first_of (Prim.search rules, Prim.grind (arith, Self.row.coded.inj)) };
+    ghost remains = { λ x. (heads_laws x.size x.threshold x.few.1).remains };
 
-    ghost others = { first_of (Prim.search rules, Prim.grind (arith, Self.row.coded.inj)) };
+    ghost others = { λ x. (heads_laws x.size x.threshold x.few.1).others };
 
-    ghost shared = { first_of (Prim.search rules, Prim.grind (arith, Self.row.coded.inj)) };
+    ghost shared = { λ x. (heads_laws x.size x.threshold x.few.1).shared };
 
-    ghost halves = { first_of (Prim.search rules, Prim.grind (arith, Self.row.coded.inj)) };
+    ghost halves = { λ x. (heads_laws x.size x.threshold x.few.1).halves };
 
     fn size(&self) -> usize {
         usize::from(self.size)

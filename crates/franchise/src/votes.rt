@@ -5,7 +5,7 @@ ghost use Rattle.franchise.specs.Marks.{set_of};
 ghost use Rattle.franchise.specs.Polls.{votes as votes_poll, table_poll, tally as tally_of, facts_of};
 ghost use Rattle.franchise.specs.Refused.{fair_vote, fair, votes_questions, refusal_of};
 ghost use Rattle.franchise.specs.Weights.{weight, whole, listed};
-ghost use Rattle.std.proofs.Common.{rules, arith};
+ghost use Rattle.franchise.specs.Lawful.{table_laws};
 
 use super::fault::FranchiseFault;
 use super::laws::Franchise;
@@ -118,19 +118,19 @@ fn tabled(votes: &[Vote]) -> [Vote; 16]
 impl Franchise for Votes {
     ghost facts = { λ v. facts_of (table_poll v.size v.table v.threshold) };
 
-    ghost parts = { first_of (Prim.search rules, Prim.grind (arith, Self.row.coded.inj)) };
+    ghost parts = { λ x. (table_laws x.size x.table x.threshold x.total x.few.1 x.few.2).parts };
 
-    ghost growth = { first_of (Prim.search rules, Prim.grind (arith, Self.row.coded.inj)) };
+    ghost growth = { λ x. (table_laws x.size x.table x.threshold x.total x.few.1 x.few.2).growth };
 
-    ghost outside = { first_of (Prim.search rules, Prim.grind (arith, Self.row.coded.inj)) };
+    ghost outside = { λ x. (table_laws x.size x.table x.threshold x.total x.few.1 x.few.2).outside };
 
-    ghost remains = { first_of (Prim.search rules, Prim.grind (arith, Self.row.coded.inj)) };
+    ghost remains = { λ x. (table_laws x.size x.table x.threshold x.total x.few.1 x.few.2).remains };
 
-    ghost others = { first_of (Prim.search rules, Prim.grind (arith, Self.row.coded.inj)) };
+    ghost others = { λ x. (table_laws x.size x.table x.threshold x.total x.few.1 x.few.2).others };
 
-    ghost shared = { first_of (Prim.search rules, Prim.grind (arith, Self.row.coded.inj)) };
+    ghost shared = { λ x. (table_laws x.size x.table x.threshold x.total x.few.1 x.few.2).shared };
 
-    ghost halves = { first_of (Prim.search rules, Prim.grind (arith, Self.row.coded.inj)) };
+    ghost halves = { λ x. (table_laws x.size x.table x.threshold x.total x.few.1 x.few.2).halves };
 
     fn size(&self) -> usize {
         usize::from(self.size)

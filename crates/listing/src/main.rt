@@ -1,4 +1,6 @@
 //! Reads a sheet from standard input and prints its listing.
+#![tactic(auto)]
+
 use lines::listing::{LONGEST, listing_text};
 use std::io;
 use std::io::Read;

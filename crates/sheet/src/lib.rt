@@ -1,4 +1,6 @@
 //! Sheets: their entries, and what they are refused for.
+#![tactic(auto)]
+
 pub mod entry;
 pub mod fault;
 pub mod header;

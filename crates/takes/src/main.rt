@@ -1,4 +1,6 @@
 //! Takes from wires on which two sample codes wait, and prints the codes that come.
+#![tactic(auto)]
+
 ghost use Rattle.std.specs.Prelude.{◌≡◌};
 ghost use Rattle.protocol.specs.Refusals.{answer, told};
 ghost use Rattle.wire.specs.Refused.{refusal_of};

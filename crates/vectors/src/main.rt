@@ -1,4 +1,6 @@
 //! Lists the sheets in data/ whose names standard input has, one to a line.
+#![tactic(auto)]
+
 use lines::listing::listing_text;
 use std::{fs, io};
 

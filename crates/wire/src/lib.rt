@@ -1,4 +1,6 @@
 //! Wires: what holds the messages that are sent and not yet delivered.
+#![tactic(auto)]
+
 pub mod bag;
 pub mod codes;
 pub mod counts;

@@ -9,7 +9,7 @@ returns-in-err-placed c =
     let bs = c.args.sheet.now in
     let short = le-leb (length bs) 32768 c.if-sheet-gt-LONGEST.false in
     let was = sym c.placed.ensures ∙ c.in-ok-kind.was in
-    let came : c.from-residual-in-err-placed.result ≡ Err c.in-err-placed.field-0.0 = search rules in
+    let came : c.from_residual-in-err-placed.result ≡ Err c.in-err-placed.field-0.0 = search rules in
     record {
       lines = λ ls.
           ap (λ r. either_lines r ls) came

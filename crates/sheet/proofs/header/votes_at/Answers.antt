@@ -7,7 +7,7 @@ use Rattle.sheet.proofs.header.votes_at.Goals as goal
 pub loop-i-preserved : goal.loop-i-preserved
 loop-i-preserved c = (
   simp length-set c.loop-i.invariant.0,
-  rw c.word-at.ensures
+  rw c.word_at.ensures
       (fill_by_more (λ i. word c.args.sheet.now (8 + 2 * i)) c.loop-i.votes c.loop-i.i 0 (omega arith) c.loop-i.invariant.1),
 )
 

@@ -17,7 +17,7 @@ loop-process-preserved c =
     let r = of_open c.args.roll.now in
     let f = c.args.faulty in
     let now = of_open c.loop-process.roll in
-    let set = ap (λ (s : Set). s i) c.from-bits-members.ensures.members in
+    let set = ap (λ (s : Set). s i) c.from_bits-members.ensures.members in
     elim c.if-contains.branch [
       | then-contains+in-ok-name w ↦ (
           let told = w.in-ok-name.ensures in
@@ -34,8 +34,8 @@ pub returns-in-err-name : goal.returns-in-err-name
 returns-in-err-name c =
     let i = c.loop-process.process in
     let fault = c.in-err-name.field-0.0 in
-    let set = ap (λ (s : Set). s i) c.from-bits-members.ensures.members in
-    let came : c.from-residual.result ≡ Err fault = search rules in
+    let set = ap (λ (s : Set). s i) c.from_bits-members.ensures.members in
+    let came : c.from_residual.result ≡ Err fault = search rules in
     record {
       answer =
           ap (told (λ x. x) refusal_of) came

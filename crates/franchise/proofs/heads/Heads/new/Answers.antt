@@ -1,5 +1,5 @@
 use Rattle.std.proofs.Common.{rules}
-use Rattle.franchise.proofs.Arithmetic.{whole_ones}
+use Rattle.franchise.specs.Arithmetic.{whole_ones}
 use Rattle.franchise.proofs.heads.Heads.new.Goals as goal
 
 pub returns-then-from : goal.returns-then-from

@@ -1,7 +1,7 @@
 use Rattle.std.proofs.Common.{◌≡◌, sym, arith}
 use Rattle.franchise.specs.Marks.{set_of}
 use Rattle.franchise.specs.Weights.{one_each}
-use Rattle.franchise.proofs.Arithmetic.{weight_yes, weight_no, whole_ones}
+use Rattle.franchise.specs.Arithmetic.{weight_yes, weight_no, whole_ones}
 use Rattle.franchise.proofs.heads.Heads.tally.Goals as goal
 use Rattle.franchise.proofs.heads.Heads.tally.Goals.{then-contains, else-contains}
 

@@ -12,7 +12,7 @@ pub returns-in-err-roll : goal.returns-in-err-roll
 returns-in-err-roll c =
     let h = c.args.self.now in
     let wire : leb h.wire 1 ≡ true = search rules in
-    let came : c.from-residual.result ≡ Err (Roll c.in-err-roll.field-0.0) = search rules in
+    let came : c.from_residual.result ≡ Err (Roll c.in-err-roll.field-0.0) = search rules in
     ap (told (λ x. x) refusal_of) came
     ∙ judged_no_roll h wire (roll.refusal_of c.in-err-roll.field-0.0) c.in-err-roll.ensures
 
