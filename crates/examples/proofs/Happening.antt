@@ -14,7 +14,7 @@ use Rattle.protocol.specs.Calls.{propose}
 use Rattle.protocol.specs.Play.{put, sent_to}
 use Rattle.protocol.specs.Histories.{State}
 use Rattle.franchise.specs.Polls.{heads, votes}
-use Rattle.franchise.proofs.Lawful.{laws}
+use Rattle.franchise.specs.Lawful.{laws}
 use Rattle.examples.specs.Histories.{Happens, alone, alone_decides, outvoted, outvoted_decides}
 use Rattle.examples.proofs.Counted.{Stop, start, refused, proposed, stood, stepped, planted, delivered}
 

@@ -6,7 +6,7 @@ use Rattle.roll.specs.Views.{of_open, named}
 use Rattle.sheet.specs.Headers.{all_named, members_below}
 use Rattle.sheet.proofs.Naming.{none_named, passed_over, named_more, named_beyond, all_below}
 use Rattle.sheet.proofs.judge.name_all.Goals as goal
-use Rattle.sheet.proofs.judge.name_all.Goals.{then-contains+in-ok-name, else-contains}
+use Rattle.sheet.proofs.judge.name_all.Goals.{then-contains+in_ok-name, else-contains}
 
 pub loop-process-init : goal.loop-process-init
 loop-process-init c = none_named (of_open c.args.roll.now) c.args.faulty c.requires
@@ -19,8 +19,8 @@ loop-process-preserved c =
     let now = of_open c.loop-process.roll in
     let set = ap (λ (s : Set). s i) c.from_bits-members.ensures.members in
     elim c.if-contains.branch [
-      | then-contains+in-ok-name w ↦ (
-          let told = w.in-ok-name.ensures in
+      | then-contains+in_ok-name w ↦ (
+          let told = w.in_ok-name.ensures in
           let next : of_open c.if-contains.roll ≡ leaves (name_questions now i) now (named now i) = ap of_open w.roll-is ∙ told.after in
           named_more r f i now c.loop-process.invariant.0 c.loop-process.invariant.1 (sym (w.if-contains.ensures ∙ set))
           (of_open c.if-contains.roll) told.answer next)
@@ -30,10 +30,10 @@ loop-process-preserved c =
           (next ∙ p.0, p.1))
     ]
 
-pub returns-in-err-name : goal.returns-in-err-name
-returns-in-err-name c =
+pub returns-in_err-name : goal.returns-in_err-name
+returns-in_err-name c =
     let i = c.loop-process.process in
-    let fault = c.in-err-name.field-0.0 in
+    let fault = c.in_err-name.field-0.0 in
     let set = ap (λ (s : Set). s i) c.from_bits-members.ensures.members in
     let came : c.from_residual.result ≡ Err fault = search rules in
     record {
@@ -41,7 +41,7 @@ returns-in-err-name c =
           ap (told (λ x. x) refusal_of) came
           ∙ named_beyond (of_open c.args.roll.now) c.args.faulty i (of_open c.loop-process.roll) c.loop-process.invariant.0
           c.loop-process.invariant.1 (sym (c.if-contains.ensures ∙ set)) c.loop-process-test.true (refusal_of fault)
-          c.in-err-name.ensures.answer;
+          c.in_err-name.ensures.answer;
       after = rw came tt;
     }
 

@@ -8,4 +8,4 @@ loop-count-init c = (sym (waiting_nothing (count_in c.args.counts.now)), omega a
 
 pub loop-count-preserved : goal.loop-count-preserved
 loop-count-preserved c =
-    let e = waiting_next (count_in c.args.counts.now) c.loop-count.count_index in (omega arith, omega arith)
+    let e = waiting_next (count_in c.args.counts.now) c.loop-count.count-index in (omega arith, omega arith)

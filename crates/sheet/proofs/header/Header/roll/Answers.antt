@@ -6,10 +6,10 @@ use Rattle.sheet.proofs.header.Header.roll.Goals as goal
 
 pub returns-in-Ok : goal.returns-in-Ok
 returns-in-Ok c =
-    roll_made c.args.self.now (of_open c.in-ok-roll.roll) c.in-ok-roll.ensures
+    roll_made c.args.self.now (of_open c.in_ok-roll.roll) c.in_ok-roll.ensures
     (of_sealed c.seal-roll.result) c.in-Ok.ensures.answer (c.seal-roll.ensures ∙ c.in-Ok.ensures.after)
 
 pub returns-in-Err : goal.returns-in-Err
 returns-in-Err c =
-    roll_refused c.args.self.now (of_open c.in-ok-roll.roll) c.in-ok-roll.ensures
+    roll_refused c.args.self.now (of_open c.in_ok-roll.roll) c.in_ok-roll.ensures
     (refusal_of c.in-Err.fault) c.in-Err.ensures.answer

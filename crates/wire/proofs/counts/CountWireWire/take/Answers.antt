@@ -13,12 +13,12 @@ use Rattle.wire.proofs.Seeking.{chosen_none, chosen_waits}
 use Rattle.wire.proofs.counts.CountWireWire.take.Goals as goal
 
 -- where no code is chosen, nothing waits
-pub returns-in-default : goal.returns-in-default
-returns-in-default c =
+pub returns-in_default : goal.returns-in_default
+returns-in_default c =
     let w = c.args.self.now in
     let k = c.args.k in
     let qs = take_questions (waiting (counts_of w)) in
-    let none = sym c.chosen.ensures ∙ not_some c.chosen.result c.in-default.not-Some in
+    let none = sym c.chosen.ensures ∙ not_some c.chosen.result c.in_default.not-Some in
     let no = empty (waiting (counts_of w)) (chosen_none (counts_of w) k none) in
     record {
       answer = refuses qs (counts_kind.pick w k) (refusal_of Empty) no;
@@ -37,8 +37,8 @@ bounds-self-from c =
     (there c.args.self.now c.args.k c.in-Some.code c.from.result (sym c.chosen.ensures ∙ c.in-Some.is)
     c.from.ensures).0
 
-pub overflow-sub-self : goal.overflow-sub-self
-overflow-sub-self c =
+pub overflow_sub-self : goal.overflow_sub-self
+overflow_sub-self c =
     (there c.args.self.now c.args.k c.in-Some.code c.from.result (sym c.chosen.ensures ∙ c.in-Some.is)
     c.from.ensures).1
 
