@@ -1,5 +1,5 @@
 -- The seven laws of any franchise by votes whose sum is above three times the threshold.
-use Rattle.std.proofs.Common.{◌≡◌, ℕ, ◌+◌, ◌*◌, ◌<◌, ◌≤◌, true, not, ◌&&◌, List, take, ◌⊎◌, inl, inr, arith}
+use Rattle.std.proofs.Common.{◌≡◌, ℕ, ◌+◌, ◌*◌, ◌<◌, ◌≤◌, true, ◌&&◌, List, take, ◌⊎◌, inl, inr, arith}
 use Rattle.std.proofs.lemmas.Bool.{leb-true, le-leb, cases_Bool, and_parts, and_from, not_from_false, cases_lt}
 use Rattle.protocol.specs.Sets.{Set, empty, less, all_less, Within}
 use Rattle.protocol.specs.Laws.{Laws, Parts, Growth, Outside, Remains, Others, Shared, Halves}

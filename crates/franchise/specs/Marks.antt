@@ -1,5 +1,5 @@
 -- The set that a `Members` holds.
-use Rattle.std.specs.Prelude.{ℕ, Bool, true, false, ◌||◌, List, [], ◌∷◌, set, replicate, slice_index_or, slice_set}
+use Rattle.std.specs.Prelude.{ℕ, Bool, true, false, ◌||◌, List, [], ◌∷◌, replicate, slice_index_or, slice_set}
 use Rattle.protocol.specs.Sets.{Set}
 use Rattle.franchise.specs.declared.members.Members.{Members}
 

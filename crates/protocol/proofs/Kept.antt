@@ -14,7 +14,7 @@ use Rattle.protocol.specs.Messages.{Message, code, message_of, message}
 use Rattle.protocol.specs.Processes.{Process, proposing, sending, known, noting, heard}
 use Rattle.protocol.specs.Rounds.{decides}
 use Rattle.protocol.specs.Outcomes.{after, says}
-use Rattle.protocol.specs.Wires.{pool, waiting, one_more, one_less}
+use Rattle.protocol.specs.Wires.{pool, one_more, one_less}
 use Rattle.protocol.specs.Settings.{Setting, Fair, Correct}
 use Rattle.protocol.specs.Calls.{Call, propose, step, plant, deliver, standing, Answer, done, did}
 use Rattle.protocol.specs.Play.{put, landing, delivered, outcome_of, questions, reply, sent_by, change, call_answer, call_leaves}

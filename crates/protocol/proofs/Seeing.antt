@@ -1,5 +1,5 @@
 -- A kind of wire that is seen as one that keeps the laws keeps them too.
-use Rattle.std.proofs.Common.{◌≡◌, ℕ, ◌-◌, ◌<◌, ◌≤◌, sym, ap, ◌∙◌, subst}
+use Rattle.std.proofs.Common.{◌≡◌, ℕ, ◌<◌, ◌≤◌, sym, ap, ◌∙◌, subst}
 use Rattle.protocol.specs.Wires.{Wire, WireLaws, Seen, waiting, free, one_more, one_less}
 
 module _ {W V : Type 0} (K : Wire W) (P : Wire V) (see : W → V) (S : Seen K P see) where

@@ -1,5 +1,5 @@
 -- The seven laws that every franchise keeps. The faulty processes are any tolerable set.
-use Rattle.std.specs.Prelude.{◌≡◌, ℕ, ◌<◌, true, false, not, ◌⊎◌}
+use Rattle.std.specs.Prelude.{◌≡◌, ℕ, ◌<◌, true, false, ◌⊎◌}
 use Rattle.protocol.specs.Sets.{Set, empty, less, all_less, Within}
 use Rattle.protocol.specs.Facts.{Facts}
 

@@ -4,10 +4,9 @@ use Rattle.std.proofs.lemmas.List.{length-set, length-map, length-take-le, take_
 use Rattle.protocol.specs.Wires.{WireLaws, Seen, waiting, free}
 use Rattle.protocol.proofs.Seeing.{laws_seen}
 use Rattle.wire.specs.declared.bag.Bag.{Bag}
-use Rattle.wire.specs.declared.message.Message.{Message}
 use Rattle.wire.specs.Messages.{code_of, message_with}
 use Rattle.wire.specs.PlainWires.{Row, place_in, plain_bag}
-use Rattle.wire.specs.Bags.{room, held, place, moved_down, bag_kind, row, codes, ListsCodes}
+use Rattle.wire.specs.Bags.{room, held, place, moved_down, bag_kind, row, ListsCodes}
 use Rattle.wire.proofs.Coding.{code_with}
 use Rattle.wire.proofs.Copying.{waiting_in}
 use Rattle.wire.proofs.Gaps.{length_moved, moved_front}

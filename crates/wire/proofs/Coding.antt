@@ -1,9 +1,9 @@
 -- Messages of the code and their codes, each got back from the other.
-use Rattle.std.proofs.Common.{◌≡◌, ℕ, ◌%◌, ◌<◌, ◌∙◌, mod-eq_of_lt, arith}
+use Rattle.std.proofs.Common.{◌≡◌, ℕ, ◌%◌, ◌<◌, ◌∙◌, mod-eq_of_lt}
 use std.HLevel.{prop→path_p}
 use denote.Struct.Props.{props}
-use Rattle.protocol.specs.Messages.{Message as Numbers, code, message_of, Writable}
-use Rattle.protocol.proofs.Codes.{message_of_code, code_of_message, code_below}
+use Rattle.protocol.specs.Messages.{Writable}
+use Rattle.protocol.proofs.Codes.{code_of_message, code_below}
 use Rattle.wire.specs.declared.message.Message.{Message, ranges-type}
 use Rattle.wire.specs.Messages.{in_numbers, code_of, message_with}
 

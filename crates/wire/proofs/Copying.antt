@@ -1,10 +1,10 @@
 -- How many of some messages have a code.
-use Rattle.std.proofs.Common.{◌≡◌, ℕ, zero, suc, ◌+◌, ◌-◌, ◌<◌, ◌≤◌, Bool, true, false, cond, eqb, List, [], ◌∷◌, ◌++◌, length, get_or, take, drop, sym, refl, ap, ◌∙◌, subst, arith}
-use Rattle.std.proofs.lemmas.Bool.{eq-eqb, eqb-true, cond-true}
+use Rattle.std.proofs.Common.{◌≡◌, ℕ, zero, suc, ◌-◌, ◌<◌, ◌≤◌, Bool, true, false, cond, eqb, List, [], ◌∷◌, ◌++◌, length, get_or, take, drop, sym, refl, ap, subst, arith}
+use Rattle.std.proofs.lemmas.Bool.{eq-eqb, eqb-true}
 use Rattle.protocol.specs.Wires.{waiting, waiting_below, one_more, one_less}
 use Rattle.protocol.proofs.Copies.{waiting_more}
 use Rattle.wire.specs.declared.message.Message.{Message}
-use Rattle.wire.specs.Messages.{code_of, message_with}
+use Rattle.wire.specs.Messages.{code_of}
 use Rattle.wire.specs.PlainWires.{copies_in}
 use Rattle.wire.proofs.Coding.{code_low}
 

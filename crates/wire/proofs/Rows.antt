@@ -1,7 +1,7 @@
 -- The bag as a list keeps the laws of a wire.
-use Rattle.std.proofs.Common.{◌≡◌, ℕ, suc, ◌%◌, ◌<◌, ◌≤◌, length, get_or, refl, ap, ◌∙◌, mod-lt, arith}
+use Rattle.std.proofs.Common.{ℕ, ◌<◌, ◌≤◌, length, get_or, refl, ap, ◌∙◌, mod-lt, arith}
 use Rattle.protocol.specs.Wires.{WireLaws, waiting, one_more}
-use Rattle.wire.specs.Messages.{code_of, message_with}
+use Rattle.wire.specs.Messages.{message_with}
 use Rattle.wire.specs.PlainWires.{Row, copies_in, place_in, plain_bag}
 use Rattle.wire.proofs.Coding.{code_low, code_with}
 use Rattle.wire.proofs.Copying.{waiting_in, copies_push, copies_at, copies_gone}

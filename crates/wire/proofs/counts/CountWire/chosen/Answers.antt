@@ -1,4 +1,4 @@
-use Rattle.std.proofs.Common.{◌≡◌, sym, ◌∙◌}
+use Rattle.std.proofs.Common.{sym, ◌∙◌}
 use Rattle.wire.proofs.Counting.{none_chosen}
 use Rattle.wire.proofs.counts.CountWire.chosen.Goals as goal
 

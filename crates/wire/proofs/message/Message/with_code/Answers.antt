@@ -1,4 +1,4 @@
-use Rattle.std.proofs.Common.{refl, add-one, arith}
+use Rattle.std.proofs.Common.{refl, add-one}
 use Rattle.wire.specs.Messages.{message_with}
 use Rattle.wire.proofs.Coding.{same_message}
 use Rattle.wire.proofs.message.Message.with_code.Goals as goal
