@@ -1,13 +1,13 @@
 //! The worked examples, proved as one list, and two histories, played in full.
 #![tactic(auto)]
 
-ghost use Rattle.std.specs.List.{AllByRecursion as All};
+ghost use Rattle.std.specs.List.{AllByRecursion};
 ghost use Rattle.examples.specs.Examples.{examples, Holds};
 ghost use Rattle.examples.specs.Histories.{Happens, alone, alone_decides, outvoted, outvoted_decides};
 
 /// Every example of the list holds.
 pub fn examples_hold()
-    ensures { All Holds examples }
+    ensures { AllByRecursion Holds examples }
 {}
 
 /// The calls of the sample sheet are a history in a fair setting: a process alone decides.
