@@ -6,6 +6,7 @@ ghost use Rattle.protocol.specs.Refusals.{answer, told};
 ghost use Rattle.wire.specs.Refused.{refusal_of};
 ghost use Rattle.takes.specs.Samples.{both_sent, both_questions, one_taken};
 
+use protocol::refusal::Refusal;
 use std::io;
 use wire::bag::Bag;
 use wire::codes::CODES;
@@ -35,7 +36,7 @@ fn print_take<W: Wire>(rt: &HostRuntime, name: &str, wire: &mut W, k: u16) -> io
     match take_of_both(wire, k) {
         Ok(code) => println!(rt; "{name}, {k}: {code}"),
         Err(fault) => {
-            let refusal = fault.refusal();
+            let refusal = Refusal::from(fault);
             println!(rt; "{name}, {k}: no {refusal}")
         }
     }
@@ -43,7 +44,7 @@ fn print_take<W: Wire>(rt: &HostRuntime, name: &str, wire: &mut W, k: u16) -> io
 
 fn main(rt: HostRuntime) -> io::Result<()> {
     let heap = rt.alloc();
-    let mut counts = vec![in heap; 7; CODES as usize]?;
+    let mut counts = vec![in heap; 7; usize::from(CODES)]?;
     for k in [0, 3000] {
         print_take(&rt, "count wire", &mut CountWire::new(&mut counts, 2), k)?;
     }

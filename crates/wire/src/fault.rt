@@ -4,7 +4,7 @@ ghost use Rattle.wire.specs.Refused.{refusal_of};
 
 use protocol::refusal::{Layer, Refusal};
 
-#[derive(Clone, Copy)]
+#[derive(Clone, Copy, PartialEq, Eq, Debug)]
 pub enum WireFault {
     /// the code is not below 32,768
     Code,
@@ -14,12 +14,12 @@ pub enum WireFault {
     Empty,
 }
 
-impl WireFault {
-    /// Its number and the layer where it arose.
-    pub fn refusal(self) -> Refusal
-        ensures { result ≡ refusal_of self }
-    {
-        let number = match self {
+/// Its number and the layer where it arose.
+impl From<WireFault> for Refusal {
+    ghost from_gives = { λ f r. r ≡ refusal_of f };
+
+    fn from(fault: WireFault) -> Refusal {
+        let number = match fault {
             WireFault::Code => 19,
             WireFault::Full => 9,
             WireFault::Empty => 10,
