@@ -1,21 +1,33 @@
 -- Messages of the code and their codes, each got back from the other.
-use Rattle.std.proofs.Common.{◌≡◌, ℕ, ◌%◌, ◌<◌, ◌∙◌, mod-eq_of_lt}
+use Rattle.std.proofs.Common.{◌≡◌, ℕ, zero, suc, ◌%◌, ◌<◌, refl, ap, ◌∙◌, mod-eq_of_lt, arith}
 use std.HLevel.{prop→path_p}
 use denote.Struct.Props.{props}
-use Rattle.protocol.specs.Messages.{Writable}
+use Rattle.protocol.specs.Messages.{Message as Numbers, code, message_of, Writable}
 use Rattle.protocol.proofs.Codes.{code_of_message, code_below}
 use Rattle.wire.specs.declared.message.Message.{Message, ranges-type}
-use Rattle.wire.specs.Messages.{in_numbers, code_of, message_with}
+use Rattle.wire.specs.declared.message.MessageKind.{MessageKind}
+use Rattle.wire.specs.declared.message.MessageKind.TheVariants.{Est, Aux}
+use Rattle.wire.specs.Messages.{number_of_kind, kind_with, in_numbers, code_of, message_with}
+
+kind_below : (k : MessageKind) → number_of_kind k < 2
+kind_below Est = omega arith
+kind_below Aux = omega arith
+
+-- the number of the kind with a number
+number_back : (n : ℕ) → n < 2 → number_of_kind (kind_with n) ≡ n
+number_back zero l = refl
+number_back (suc zero) l = refl
+number_back (suc (suc n)) l = absurd (omega arith)
 
 -- the numbers of a message are in range
 pub in_range : (m : Message) → Writable (in_numbers m)
 in_range m = record {
   sender = m.ranges.0.0;
   receiver = m.ranges.0.1;
-  kind = m.ranges.1;
-  first = m.ranges.2.0;
-  last = m.ranges.2.1;
-  content = m.ranges.3;
+  kind = kind_below m.kind;
+  first = m.ranges.1.0;
+  last = m.ranges.1.1;
+  content = m.ranges.2;
 }
 
 -- so its code is below 32,768
@@ -37,4 +49,11 @@ same_message m n s d k r c = λ i. record {
 
 -- the code of the message with a code
 pub code_with : (x : ℕ) → x < 32768 → code_of (message_with x) ≡ x
-code_with x l = code_of_message (x % 32768) ∙ mod-eq_of_lt l
+code_with x l =
+    let n = message_of (x % 32768) in
+    let k = number_back n.kind (omega arith) in
+    ap
+    (λ (i : ℕ).
+    code record { sender = n.sender; receiver = n.receiver; kind = i; round = n.round; content = n.content })
+    k
+    ∙ code_of_message (x % 32768) ∙ mod-eq_of_lt l

@@ -1,14 +1,36 @@
 //! The code of a message, and the message with a code.
 ghost use Rattle.std.specs.Prelude.{◌≡◌, ◌%◌};
-ghost use Rattle.wire.specs.Messages.{code_of, message_with};
+ghost use Rattle.wire.specs.Messages.{number_of_kind, kind_with, code_of, message_with};
 
-use super::message::Message;
+use super::message::{Message, MessageKind};
 
 /// Every code is below this.
 pub const CODES: u16 = 32768;
 
+/// EST is written as 0, AUX as 1.
+impl From<MessageKind> for u16 {
+    ghost from_gives = { λ k r. r ≡ number_of_kind k };
+
+    fn from(kind: MessageKind) -> u16 {
+        match kind {
+            MessageKind::Est => 0,
+            MessageKind::Aux => 1,
+        }
+    }
+}
+
+fn kind_with(number: u16) -> MessageKind
+    ensures { result ≡ kind_with number }
+{
+    if number == 0 {
+        MessageKind::Est
+    } else {
+        MessageKind::Aux
+    }
+}
+
 impl Message {
-    /// The number that the message is written as.
+    /// The number that the message is written as. `u16::from` would not say which number it is.
     pub fn code(self) -> u16
         ensures { result ≡ code_of self }
     {
@@ -24,10 +46,11 @@ impl Message {
         ensures { result ≡ message_with code }
     {
         let code = code % CODES;
+        // each number is below 32, so no cast loses anything
         Message {
             sender: (code / 2048) as u8,
             receiver: (code / 128 % 16) as u8,
-            kind: (code / 64 % 2) as u8,
+            kind: kind_with(code / 64 % 2),
             round: (code / 4 % 16 + 1) as u8,
             content: (code % 4) as u8,
         }
