@@ -1,7 +1,7 @@
 //! The bag: a wire that keeps its messages in a list, in the order in which they came.
-ghost use Rattle.std.specs.Prelude.{◌≡◌, ◌-◌, ◌<◌, ◌≤◌, length};
+ghost use Rattle.std.specs.Prelude.{◌≡◌};
 ghost use Rattle.protocol.specs.Wires.{WireLaws};
-ghost use Rattle.wire.specs.Bags.{empty_bag, room, held as messages_held, moved_down, bag_kind};
+ghost use Rattle.wire.specs.Bags.{empty_bag, room, held as messages_held, bag_kind};
 
 use super::codes::CODES;
 use super::fault::WireFault;
@@ -36,16 +36,6 @@ impl<'a> Bag<'a> {
         ensures { result ≡ messages_held self.now }
     {
         self.waiting.min(self.places())
-    }
-}
-
-// Moves the messages after place i, up to place last, down by one.
-fn move_down(messages: &mut [Message], i: usize, last: usize)
-    requires { (i ≤ last) × (last < length messages.old) }
-    ensures { messages.new ≡ moved_down messages.old i last }
-{
-    for j in i..last {
-        messages[j] = messages[j + 1];
     }
 }
 
@@ -84,7 +74,7 @@ impl<'a> Wire for Bag<'a> {
         }
         let i = usize::from(k) % held;
         let code = self.messages[i].code();
-        move_down(self.messages, i, held - 1);
+        self.messages.copy_within(i + 1..held, i);
         self.waiting = held - 1;
         Ok(code)
     }

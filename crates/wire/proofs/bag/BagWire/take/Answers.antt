@@ -1,12 +1,13 @@
-use Rattle.std.proofs.Common.{arith, rules}
+use Rattle.std.proofs.Common.{mod-lt, arith, rules}
 use Rattle.std.proofs.lemmas.List.{get_or_read}
 use Rattle.protocol.specs.Wires.{waiting}
 use Rattle.protocol.proofs.Asking.{grants, does_change, refuses, does_nothing}
 use Rattle.wire.specs.declared.fault.WireFault.TheVariants.{Empty}
 use Rattle.wire.specs.Refused.{take_questions, refusal_of}
-use Rattle.wire.specs.Bags.{bag_kind}
+use Rattle.wire.specs.Bags.{held, place, bag_kind}
 use Rattle.wire.proofs.Asking.{may_take, empty}
 use Rattle.wire.proofs.Bagging.{held_waiting}
+use Rattle.wire.proofs.Gaps.{copied}
 use Rattle.wire.proofs.bag.BagWire.take.Goals as goal
 
 pub returns-then-held-eq0 : goal.returns-then-held-eq0
@@ -30,5 +31,5 @@ returns c =
     let yes = may_take (waiting (bag_kind.copies b)) (omega arith) in
     record {
       answer = grants qs (bag_kind.pick b k) c.code-code.result yes (search (rules, get_or_read));
-      after = does_change qs b (bag_kind.rest b k) _ yes (search rules);
+      after = does_change qs b (bag_kind.rest b k) _ yes (let p = mod-lt k (omega arith) in let m = copied b.messages.now (place b k) (held b) p in search (rules, m));
     }
