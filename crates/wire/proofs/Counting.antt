@@ -1,7 +1,8 @@
 -- A count wire is seen as its counts, and so keeps the laws of a wire.
-use Rattle.std.proofs.Common.{◌≡◌, ℕ, zero, suc, ◌+◌, ◌-◌, ◌<◌, ◌≤◌, Bool, true, false, cond, eqb, List, [], length, set, Some, None, Option, sym, refl, ap, ◌∙◌, subst, inl, inr, add-one, arith}
+use Rattle.std.proofs.Common.{◌≡◌, ℕ, zero, suc, ◌+◌, ◌-◌, ◌<◌, ◌≤◌, Bool, true, false, cond, eqb, List, [], ◌∷◌, length, sum, set, Some, None, Option, sym, refl, ap, ◌∙◌, subst, inl, inr, add-one, arith}
 use Rattle.std.proofs.lemmas.List.{length-set, get_or-set_same, get_or-set_other}
 use Rattle.std.proofs.lemmas.Bool.{eq-eqb, ne_eqb, eqb-true, cases_eq, cond-true, cond-false}
+use Rattle.std.proofs.lemmas.List.Sums.{sum_by-cons}
 use Rattle.protocol.specs.Wires.{WireLaws, Seen, waiting, waiting_below, free, one_more, one_less}
 use Rattle.protocol.proofs.Seeing.{laws_seen}
 use Rattle.wire.specs.declared.counts.CountWire.{CountWire}
@@ -31,14 +32,18 @@ count_waits g (suc m) x l = elim (cases_eq x m) [
   | inr e ↦ let h = count_waits g m x (omega arith) in omega arith
 ]
 
--- one count more, as a sum goes on
-pub waiting_next : (g : ℕ → ℕ) (m : ℕ) → waiting_below g (m + 1) ≡ waiting_below g m + g m
+-- the first count, and the others
+first_counted : (g : ℕ → ℕ) (m : ℕ) → waiting_below g (suc m) ≡ g 0 + waiting_below (λ y. g (suc y)) m
 unfolding waiting_below
-waiting_next g m = ap (waiting_below g) (add-one m)
+first_counted g zero = omega arith
+first_counted g (suc m) = let e = first_counted g m in omega arith
 
-pub waiting_nothing : (g : ℕ → ℕ) → waiting_below g 0 ≡ 0
+-- the counts of some memory, summed
+pub sum_counted : (xs : List ℕ) → sum xs ≡ waiting_below (count_in xs) (length xs)
 unfolding waiting_below
-waiting_nothing g = refl
+sum_counted [] = refl
+sum_counted (x ∷ xs) =
+    sum_by-cons (λ y. y) x xs ∙ ap (λ (m : ℕ). x + m) (sum_counted xs) ∙ sym (first_counted (count_in (x ∷ xs)) (length xs))
 
 module _ (w : CountWire) where
   -- where a place is free, or something waits, there is a count for each code
@@ -125,6 +130,15 @@ module _ (w : CountWire) where
         less y =
             count_set (picked w k) (count_in w.counts.now (picked w k) - 1) y (count_in w.counts.now y - 1) (count_in w.counts.now y) l
             (λ e. let f = ap (count_in w.counts.now) e in omega arith) refl
+
+  -- where a place is free, each count is below the number of places
+  pub count_free : (x : ℕ) → x < 32768 → 1 ≤ free counts_kind w → count_in w.counts.now x < w.places
+  count_free x l r =
+      let whole = whole_free r in
+      let g = ap (λ (g : ℕ → ℕ). g x) (counts_whole whole) in
+      let p = if_whole_yes w.counts.now w.places 0 whole in
+      let h = count_waits (counts_of w) 32768 x l in
+      omega arith
 
   -- the code that is chosen has a count, and that is above 0
   pub chosen_counted : (k x : ℕ) → chosen (counts_of w) k ≡ Some x → (x < length w.counts.now) × (1 ≤ count_in w.counts.now x)

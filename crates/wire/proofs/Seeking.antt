@@ -1,7 +1,11 @@
 -- The smallest waiting code from one on, and the one that a count wire chooses.
-use Rattle.std.proofs.Common.{◌≡◌, ℕ, zero, suc, ◌+◌, ◌-◌, ◌%◌, ◌<◌, ◌≤◌, Bool, true, false, cond, leb, ◌⊎◌, Some, None, Option, sym, refl, ap, ◌∙◌, subst, inl, inr, mod-lt, arith}
+use Rattle.std.proofs.Common.{◌≡◌, ℕ, zero, suc, ◌+◌, ◌-◌, ◌%◌, ◌<◌, ◌≤◌, Bool, true, false, cond, leb, List, length, drop, ◌⊎◌, Some, None, Option, sym, refl, ap, ◌∙◌, subst, inl, inr, mod-lt, arith}
 use native.Mathlib.Decide.{ℕ_discrete, dec_le}
 use Rattle.std.proofs.lemmas.Bool.{leb-true, leb-false, le-leb, lt-leb}
+use Rattle.std.specs.List.{AllWithin, HoldsAt}
+use Rattle.std.specs.Option.{MatchOption, option_map}
+use Rattle.std.proofs.lemmas.List.{length-drop, get_or-drop}
+use Rattle.wire.specs.CountWires.{count_in}
 use Rattle.protocol.specs.Options.{first_of}
 use Rattle.protocol.specs.Wires.{waiting}
 use Rattle.protocol.proofs.Copies.{waiting_some}
@@ -10,22 +14,25 @@ use Rattle.wire.specs.PlainWires.{smallest, chosen, or_zero, plain_counts}
 use Rattle.wire.specs.Smallest.{SmallestFrom, NoneFrom, TakesSmallest}
 
 module _ (g : ℕ → ℕ) where
-  -- the search stops where a copy waits
-  pub smallest_here : (n x : ℕ) → 0 < n → 1 ≤ g x → smallest g n x ≡ Some x
+  -- the search stops at the first code of which a copy waits
+  smallest_at :
+      (n x y : ℕ) → x ≤ y → y < x + n → 1 ≤ g y → ((z : ℕ) → x ≤ z → z < y → g z < 1) → smallest g n x ≡ Some y
   unfolding smallest
-  smallest_here zero x l w = absurd (omega arith)
-  smallest_here (suc n) x l w = ap (λ (b : Bool). cond b (Some x) (smallest g n (suc x))) (le-leb 1 (g x) w)
+  smallest_at zero x y a b w none = absurd (omega arith)
+  smallest_at (suc n) x y a b w none = elim (ℕ_discrete x y) [
+    | yes same ↦ rw (le-leb 1 (g x) (let e = ap g same in omega arith)) (ap Some same)
+    | no other ↦
+        rw (lt-leb 1 (g x) (none x (omega arith) (omega arith)))
+        (smallest_at n (suc x) y (omega arith) (omega arith) w (λ z c d. none z (omega arith) d))
+  ]
 
-  -- and goes on where none does
-  pub smallest_on : (n m x y : ℕ) → n ≡ suc m → y ≡ suc x → g x < 1 → smallest g m y ≡ smallest g n x
+  -- and finds none where none waits
+  smallest_none : (n x : ℕ) → ((z : ℕ) → x ≤ z → z < x + n → g z < 1) → smallest g n x ≡ None
   unfolding smallest
-  smallest_on n m x y e f w =
-      ap (smallest g m) f ∙ sym (ap (λ (b : Bool). cond b (Some x) (smallest g m (suc x))) (lt-leb 1 (g x) w))
-      ∙ ap (λ (u : ℕ). smallest g u x) (sym e)
-
-  pub smallest_end : (n x : ℕ) → n ≡ 0 → smallest g n x ≡ None
-  unfolding smallest
-  smallest_end n x e = ap (λ (u : ℕ). smallest g u x) e
+  smallest_none zero x none = refl
+  smallest_none (suc n) x none =
+      rw (lt-leb 1 (g x) (none x (omega arith) (omega arith)))
+      (smallest_none n (suc x) (λ z a b. none z (omega arith) (omega arith)))
 
   -- what is found is the smallest of those that wait
   found : (n x y : ℕ) → x + n ≤ 32768 → smallest g n x ≡ Some y → SmallestFrom g x y
@@ -118,6 +125,39 @@ module _ (g : ℕ → ℕ) where
       go : (o : Option ℕ) → chosen g k ≡ o → o ≡ Some (or_zero o)
       go (Some x) e = refl
       go None e = absurd (let m = chosen_none k e in omega arith)
+
+-- the first count above 0, from one on, is that of the smallest waiting code
+pub first_smallest :
+    (xs : List ℕ) (x : ℕ) (r s : Option ℕ) → length xs ≡ 32768 → x < 32768
+    → MatchOption r (AllWithin (λ y. y < 1) (drop x xs) 0 (length (drop x xs)))
+    (λ i.
+    (i < length (drop x xs)) × HoldsAt (λ y. 1 ≤ y) (drop x xs) i × AllWithin (λ y. y < 1) (drop x xs) 0 i)
+    → s ≡ option_map (λ i. x + i) r → s ≡ smallest (count_in xs) (32768 - x) x
+first_smallest xs x (Some i) s e l f is =
+    let long = length-drop x xs in
+    let h = f.0 in
+    let here = f.1 0 in
+    let there = get_or-drop x xs i 0 in
+    is
+    ∙ sym
+    (smallest_at (count_in xs) (32768 - x) x (x + i) (omega arith) (omega arith) (omega arith)
+    (λ z a b.
+    let w = f.2 (z - x) 0 (omega arith) (omega arith) in
+    let t = get_or-drop x xs (z - x) 0 in
+    let j : x + (z - x) ≡ z = omega arith in
+    let u = ap (count_in xs) j in
+    omega arith))
+first_smallest xs x None s e l f is =
+    let long = length-drop x xs in
+    is
+    ∙ sym
+    (smallest_none (count_in xs) (32768 - x) x
+    (λ z a b.
+    let w = f (z - x) 0 (omega arith) (omega arith) in
+    let t = get_or-drop x xs (z - x) 0 in
+    let j : x + (z - x) ≡ z = omega arith in
+    let u = ap (count_in xs) j in
+    omega arith))
 
 pub takes_smallest : TakesSmallest
 takes_smallest w k l = chosen_is w.copies k (plain_counts.pick w k) (chosen_some w.copies k l)

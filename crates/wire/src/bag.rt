@@ -1,14 +1,14 @@
 //! The bag: a wire that keeps its messages in a list, in the order in which they came.
 ghost use Rattle.std.specs.Prelude.{◌≡◌};
-ghost use Rattle.protocol.specs.Wires.{WireLaws};
-ghost use Rattle.wire.specs.Bags.{empty_bag, room, held as messages_held, bag_kind};
+ghost use Rattle.protocol.specs.Wires.{WireLaws, waiting as all_waiting};
+ghost use Rattle.wire.specs.Bags.{empty_bag, held as messages_held, bag_kind};
 
-use super::codes::CODES;
 use super::fault::WireFault;
 use super::meaning::Wire;
 use super::message::Message;
 
 /// The first `waiting` of the messages wait, the oldest first; what stands after them means nothing.
+// The list is lent by the caller, so a number beside it says how many wait.
 #[derive(Drop)]
 pub struct Bag<'a> {
     messages: &'a mut [Message],
@@ -25,18 +25,6 @@ impl<'a> Bag<'a> {
             waiting: 0,
         }
     }
-
-    fn places(&self) -> usize
-        ensures { result ≡ room self.now }
-    {
-        self.messages.len().min(65535)
-    }
-
-    fn held(&self) -> usize
-        ensures { result ≡ messages_held self.now }
-    {
-        self.waiting.min(self.places())
-    }
 }
 
 impl<'a> Wire for Bag<'a> {
@@ -46,25 +34,21 @@ impl<'a> Wire for Bag<'a> {
         ensures { WireLaws bag_kind }
     {}
 
-    fn waiting(&self) -> u16 {
-        self.held() as u16
+    fn places(&self) -> usize {
+        self.messages.len().min(65535)
     }
 
-    fn free(&self) -> u16 {
-        (self.places() - self.held()) as u16
+    fn held(&self) -> usize
+        ensures waits { result ≡ all_waiting (bag_kind.copies self.now) }
+        ensures kept { result ≡ messages_held self.now }
+    {
+        self.waiting.min(self.places())
     }
 
-    fn send(&mut self, code: u16) -> Result<(), WireFault> {
-        if code >= CODES {
-            return Err(WireFault::Code);
-        }
+    fn put(&mut self, code: u16) {
         let held = self.held();
-        if held >= self.places() {
-            return Err(WireFault::Full);
-        }
         self.messages[held] = Message::with_code(code);
         self.waiting = held + 1;
-        Ok(())
     }
 
     fn take(&mut self, k: u16) -> Result<u16, WireFault> {

@@ -1,7 +1,7 @@
 //! The count wire: a wire that keeps a count for each code.
 ghost use Rattle.std.specs.Prelude.{◌≡◌, ◌-◌, ◌<◌, ◌≤◌, length, ◌==◌};
-ghost use Rattle.protocol.specs.Wires.{WireLaws, waiting as all_waiting, waiting_below};
-ghost use Rattle.wire.specs.CountWires.{cleared, count_in, counts_of, places_of, counts_kind};
+ghost use Rattle.protocol.specs.Wires.{WireLaws, waiting_below};
+ghost use Rattle.wire.specs.CountWires.{cleared, count_in, counts_of, counts_kind};
 ghost use Rattle.wire.specs.PlainWires.{smallest, chosen as chosen_code};
 
 use super::codes::CODES;
@@ -9,6 +9,7 @@ use super::fault::WireFault;
 use super::meaning::Wire;
 
 /// How many copies of each code wait, and the number of places. In memory of another length nothing waits, and there is no place.
+// The counts are lent by the caller, so a wire may find a length that fits no codes.
 #[derive(Drop)]
 pub struct CountWire<'a> {
     counts: &'a mut [u16],
@@ -16,15 +17,11 @@ pub struct CountWire<'a> {
 }
 
 // The sum of some counts.
-fn total(counts: &[u16]) -> u32
+fn total(counts: &[u16]) -> usize
     requires { length counts.now ≤ 32768 }
     ensures { result ≡ waiting_below (count_in counts.now) (length counts.now) }
 {
-    let mut total = 0;
-    for count in counts {
-        total += u32::from(*count);
-    }
-    total
+    counts.iter().map(|&count| usize::from(count)).sum()
 }
 
 // The smallest waiting code that is at least `from`.
@@ -32,12 +29,10 @@ fn smallest_from(counts: &[u16], from: usize) -> Option<u16>
     requires { (length counts.now ≡ 32768) × (from < 32768) }
     ensures { result ≡ smallest (count_in counts.now) (32768 - from) from }
 {
-    for code in from..counts.len() {
-        if counts[code] > 0 {
-            return Some(code as u16);
-        }
-    }
-    None
+    counts[from..]
+        .iter()
+        .position(|&count| count > 0)
+        .map(|i| (from + i) as u16)
 }
 
 impl<'a> CountWire<'a> {
@@ -58,18 +53,6 @@ impl<'a> CountWire<'a> {
         self.counts.len() == usize::from(CODES)
     }
 
-    fn places(&self) -> u16
-        ensures { result ≡ places_of self.now }
-    {
-        if self.whole() { self.places } else { 0 }
-    }
-
-    fn held(&self) -> u32
-        ensures { result ≡ all_waiting (counts_of self.now) }
-    {
-        if self.whole() { total(self.counts) } else { 0 }
-    }
-
     // The smallest waiting code that is at least k mod 32,768, or the smallest of all.
     fn chosen(&self, k: u16) -> Option<u16>
         ensures { result ≡ chosen_code (counts_of self.now) k }
@@ -77,10 +60,7 @@ impl<'a> CountWire<'a> {
         if !self.whole() {
             return None;
         }
-        match smallest_from(self.counts, usize::from(k % CODES)) {
-            Some(code) => Some(code),
-            None => smallest_from(self.counts, 0),
-        }
+        smallest_from(self.counts, usize::from(k % CODES)).or_else(|| smallest_from(self.counts, 0))
     }
 }
 
@@ -91,29 +71,23 @@ impl<'a> Wire for CountWire<'a> {
         ensures { WireLaws counts_kind }
     {}
 
-    fn waiting(&self) -> u16 {
-        self.held().min(65535) as u16
+    fn places(&self) -> usize {
+        usize::from(if self.whole() { self.places } else { 0 })
     }
 
-    fn free(&self) -> u16 {
-        u32::from(self.places()).saturating_sub(self.held()) as u16
+    fn held(&self) -> usize {
+        if self.whole() { total(self.counts) } else { 0 }
     }
 
-    fn send(&mut self, code: u16) -> Result<(), WireFault> {
-        if code >= CODES {
-            return Err(WireFault::Code);
-        }
-        if self.held() >= u32::from(self.places()) {
-            return Err(WireFault::Full);
-        }
-        self.counts[usize::from(code)] += 1;
-        Ok(())
+    fn put(&mut self, code: u16) {
+        let code = usize::from(code);
+        // a count is at most the number that waits, and a place is free
+        prove!(self.counts[code] < self.places);
+        self.counts[code] += 1;
     }
 
     fn take(&mut self, k: u16) -> Result<u16, WireFault> {
-        let Some(code) = self.chosen(k) else {
-            return Err(WireFault::Empty);
-        };
+        let code = self.chosen(k).ok_or(WireFault::Empty)?;
         self.counts[usize::from(code)] -= 1;
         Ok(code)
     }

@@ -1,9 +1,10 @@
 //! What every wire means, and what its calls answer and leave.
-ghost use Rattle.std.specs.Prelude.{◌≡◌};
+ghost use Rattle.std.specs.Prelude.{◌≡◌, ◌<◌, ◌≤◌};
 ghost use Rattle.protocol.specs.Refusals.{answer, leaves, told};
 ghost use Rattle.protocol.specs.Wires.{Wire as Kind, WireLaws, waiting as all_waiting, free as free_places};
 ghost use Rattle.wire.specs.Refused.{send_questions, take_questions, refusal_of, capped};
 
+use super::codes::CODES;
 use super::fault::WireFault;
 
 /// Holds messages by their codes. Which waiting copy a take removes is each kind's own choice.
@@ -15,21 +16,50 @@ pub trait Wire {
     fn keeps_laws()
         ensures { WireLaws kind };
 
-    /// How many messages wait, at most 65,535.
-    fn waiting(&self) -> u16
-        ensures { result ≡ capped (all_waiting (kind.copies self.now)) };
+    /// How many copies there is room for.
+    fn places(&self) -> usize
+        ensures { result ≡ kind.places self.now };
 
-    /// How many places are free, at most 65,535.
-    fn free(&self) -> u16
-        ensures { result ≡ capped (free_places kind self.now) };
+    /// How many copies wait.
+    fn held(&self) -> usize
+        ensures { result ≡ all_waiting (kind.copies self.now) };
 
-    /// Adds one copy of a code.
-    fn send(&mut self, code: u16) -> Result<(), WireFault>
-        ensures answer { told (λ x. x) refusal_of result ≡ answer (send_questions code (free_places kind self.old)) tt }
-        ensures after { self.new ≡ leaves (send_questions code (free_places kind self.old)) self.old (kind.send code self.old) };
+    /// Adds one copy of a code where a place is free.
+    fn put(&mut self, code: u16)
+        requires { (code < 32768) × (1 ≤ free_places kind self.old) }
+        ensures { self.new ≡ kind.send code self.old };
 
     /// Removes one waiting copy, chosen by a number, and answers its code.
     fn take(&mut self, k: u16) -> Result<u16, WireFault>
         ensures answer { told (λ x. x) refusal_of result ≡ answer (take_questions (all_waiting (kind.copies self.old))) (kind.pick self.old k) }
         ensures after { self.new ≡ leaves (take_questions (all_waiting (kind.copies self.old))) self.old (kind.rest self.old k) };
+
+    /// How many messages wait, at most 65,535.
+    fn waiting(&self) -> u16
+        ensures { result ≡ capped (all_waiting (kind.copies self.now)) }
+    {
+        self.held().min(65535) as u16
+    }
+
+    /// How many places are free, at most 65,535.
+    fn free(&self) -> u16
+        ensures { result ≡ capped (free_places kind self.now) }
+    {
+        self.places().saturating_sub(self.held()).min(65535) as u16
+    }
+
+    /// Adds one copy of a code.
+    fn send(&mut self, code: u16) -> Result<(), WireFault>
+        ensures answer { told (λ x. x) refusal_of result ≡ answer (send_questions code (free_places kind self.old)) tt }
+        ensures after { self.new ≡ leaves (send_questions code (free_places kind self.old)) self.old (kind.send code self.old) }
+    {
+        if code >= CODES {
+            return Err(WireFault::Code);
+        }
+        if self.held() >= self.places() {
+            return Err(WireFault::Full);
+        }
+        self.put(code);
+        Ok(())
+    }
 }

@@ -1,20 +1,18 @@
-use Rattle.std.proofs.Common.{◌+◌, ◌-◌, sym, ◌∙◌, arith}
-use Rattle.wire.specs.CountWires.{count_in}
-use Rattle.wire.proofs.Seeking.{smallest_here, smallest_on, smallest_end}
+use Rattle.std.proofs.Common.{◌≡◌, ◌+◌, ◌<◌, ◌≤◌, drop, ◌∙◌, arith, rules, tests}
+use Rattle.std.proofs.lemmas.Iterator.{IsFirst-from_position, YieldsList-from_slice}
+use Rattle.std.proofs.lemmas.List.{length-drop, take_all}
+use Rattle.std.specs.Option.{option_map}
+use Rattle.wire.proofs.Seeking.{first_smallest}
 use Rattle.wire.proofs.counts.smallest_from.Goals as goal
-
-pub returns-then-counts-code-gt0 : goal.returns-then-counts-code-gt0
-returns-then-counts-code-gt0 c =
-    sym (smallest_here (count_in c.args.counts.now) (32768 - c.loop-code.code) c.loop-code.code (omega arith) (omega arith))
-    ∙ c.loop-code.invariant
-
-pub loop-code-preserved : goal.loop-code-preserved
-loop-code-preserved c =
-    let x = c.loop-code.code in
-    smallest_on (count_in c.args.counts.now) (32768 - x) (32768 - (x + 1)) x (x + 1) (omega arith) (omega arith) (omega arith)
-    ∙ c.loop-code.invariant
 
 pub returns : goal.returns
 returns c =
-    sym (smallest_end (count_in c.args.counts.now) (32768 - c.loop-code.code) c.loop-code.code (omega arith))
-    ∙ c.loop-code.invariant
+    let xs = c.args.counts.now in
+    let x = c.args.from in
+    let long = length-drop x xs in
+    let maps : c.map.result ≡ option_map (λ i. x + i) c.position.result = search rules in
+    first_smallest xs x c.position.result c.map.result (omega arith) (omega arith)
+    (IsFirst-from_position _ _ _ (λ y. 1 ≤ y) (λ y. y < 1) c.position.ensures.ran
+    (YieldsList-from_slice (drop x xs) (c.iter.ensures.rest ∙ take_all _ (drop x xs) (omega arith)))
+    (λ y q k. search (rules, tests)) (λ y q k. search (rules, tests)))
+    maps
