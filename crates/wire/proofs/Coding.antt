@@ -2,7 +2,7 @@
 use Rattle.std.proofs.Common.{◌≡◌, ℕ, zero, suc, ◌%◌, ◌<◌, refl, ap, ◌∙◌, mod-eq_of_lt, arith}
 use std.HLevel.{prop→path_p}
 use denote.Struct.Props.{props}
-use Rattle.protocol.specs.Messages.{Message as Numbers, code, message_of, Writable}
+use Rattle.protocol.specs.Messages.{code, message_of, Writable}
 use Rattle.protocol.proofs.Codes.{code_of_message, code_below}
 use Rattle.wire.specs.declared.message.Message.{Message, ranges-type}
 use Rattle.wire.specs.declared.message.MessageKind.{MessageKind}

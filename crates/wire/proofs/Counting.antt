@@ -1,5 +1,5 @@
 -- A count wire is seen as its counts, and so keeps the laws of a wire.
-use Rattle.std.proofs.Common.{◌≡◌, ℕ, zero, suc, ◌+◌, ◌-◌, ◌<◌, ◌≤◌, Bool, true, false, cond, eqb, List, [], ◌∷◌, length, sum, set, Some, None, Option, sym, refl, ap, ◌∙◌, subst, inl, inr, add-one, arith}
+use Rattle.std.proofs.Common.{◌≡◌, ℕ, zero, suc, ◌+◌, ◌-◌, ◌<◌, ◌≤◌, Bool, true, false, cond, eqb, List, [], ◌∷◌, length, sum, set, Some, None, Option, sym, refl, ap, ◌∙◌, subst, inl, inr, arith}
 use Rattle.std.proofs.lemmas.List.{length-set, get_or-set_same, get_or-set_other}
 use Rattle.std.proofs.lemmas.Bool.{eq-eqb, ne_eqb, eqb-true, cases_eq, cond-true, cond-false}
 use Rattle.std.proofs.lemmas.List.Sums.{sum_by-cons}
@@ -141,14 +141,17 @@ module _ (w : CountWire) where
       omega arith
 
   -- the code that is chosen has a count, and that is above 0
-  pub chosen_counted : (k x : ℕ) → chosen (counts_of w) k ≡ Some x → (x < length w.counts.now) × (1 ≤ count_in w.counts.now x)
-  chosen_counted k x e =
+  pub chosen_counted :
+      (k x i : ℕ) → chosen (counts_of w) k ≡ Some x → i ≡ x → (i < length w.counts.now) × (1 ≤ count_in w.counts.now i)
+  chosen_counted k x i e is =
       let t = chosen_waits (counts_of w) k x e in
       let l = t.0 in
       let h = t.1 in
       let c = count_waits (counts_of w) 32768 x l in
-      let whole = whole_held (omega arith) in
-      (omega arith, subst (λ (g : ℕ → ℕ). 1 ≤ g x) (counts_whole whole) h)
+      let whole = whole_held (omega arith) in (
+        omega arith,
+        subst (λ (u : ℕ). 1 ≤ count_in w.counts.now u) (sym is) (subst (λ (g : ℕ → ℕ). 1 ≤ g x) (counts_whole whole) h),
+      )
 
 pub counts_seen : Seen counts_kind plain_counts pool_of
 counts_seen = record {

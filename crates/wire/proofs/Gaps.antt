@@ -1,5 +1,5 @@
 -- An element taken out of a list, and those after it moved down.
-use Rattle.std.proofs.Common.{◌≡◌, ℕ, suc, ◌+◌, ◌-◌, ◌<◌, ◌≤◌, List, [], ◌∷◌, ◌++◌, length, get_or, take, drop, set, sym, ap, ◌∙◌, add-one, arith}
+use Rattle.std.proofs.Common.{◌≡◌, ℕ, suc, ◌+◌, ◌-◌, ◌<◌, ◌≤◌, List, ◌++◌, length, take, drop, sym, ap, ◌∙◌, add-one, arith}
 use Rattle.std.proofs.lemmas.List.{length-take, length-drop, length-append, take_at, take-take, drop-take}
 use Rattle.std.specs.List.{copy_within}
 use Rattle.wire.specs.Bags.{moved_down}

@@ -16,12 +16,12 @@ pub struct CountWire<'a> {
     places: u16,
 }
 
-// The sum of some counts.
-fn total(counts: &[u16]) -> usize
+// The sum of some counts. It fits 32 bits, and in 64 it takes twice as long.
+fn total(counts: &[u16]) -> u32
     requires { length counts.now ≤ 32768 }
     ensures { result ≡ waiting_below (count_in counts.now) (length counts.now) }
 {
-    counts.iter().map(|&count| usize::from(count)).sum()
+    counts.iter().map(|&count| u32::from(count)).sum()
 }
 
 // The smallest waiting code that is at least `from`.
@@ -76,7 +76,11 @@ impl<'a> Wire for CountWire<'a> {
     }
 
     fn held(&self) -> usize {
-        if self.whole() { total(self.counts) } else { 0 }
+        if self.whole() {
+            total(self.counts) as usize
+        } else {
+            0
+        }
     }
 
     fn put(&mut self, code: u16) {

@@ -29,6 +29,7 @@ pub trait Wire {
         requires { (code < 32768) × (1 ≤ free_places kind self.old) }
         ensures { self.new ≡ kind.send code self.old };
 
+    // Each kind asks for itself whether a copy waits: a count wire learns it from its search, far faster than from the sum.
     /// Removes one waiting copy, chosen by a number, and answers its code.
     fn take(&mut self, k: u16) -> Result<u16, WireFault>
         ensures answer { told (λ x. x) refusal_of result ≡ answer (take_questions (all_waiting (kind.copies self.old))) (kind.pick self.old k) }

@@ -1,4 +1,4 @@
-use Rattle.std.proofs.Common.{sym, ◌∙◌, arith}
+use Rattle.std.proofs.Common.{arith}
 use Rattle.wire.proofs.Bagging.{held_waiting}
 use Rattle.wire.proofs.bag.BagWire.held.Goals as goal
 

@@ -1,10 +1,8 @@
-use Rattle.std.proofs.Common.{◌≡◌, ◌<◌, ◌≤◌, length, Err, sym, ap, ◌∙◌, subst, arith, rules}
+use Rattle.std.proofs.Common.{◌≡◌, Err, sym, ap, ◌∙◌, arith, rules}
 use Rattle.protocol.specs.Wires.{waiting}
-use Rattle.protocol.proofs.Asking.{grants, does_change, refuses, does_nothing}
 use Rattle.wire.specs.declared.fault.WireFault.TheVariants.{Empty}
-use Rattle.wire.specs.Refused.{take_questions, refusal_of}
 use Rattle.wire.specs.PlainWires.{or_zero}
-use Rattle.wire.specs.CountWires.{count_in, counts_of, counts_kind}
+use Rattle.wire.specs.CountWires.{counts_of}
 use Rattle.wire.proofs.Asking.{may_take, empty}
 use Rattle.wire.proofs.Counting.{chosen_counted, count_waits}
 use Rattle.wire.proofs.Seeking.{chosen_none, chosen_waits}
@@ -21,35 +19,26 @@ returns-in_err-code c =
 
 pub bounds-self-from : goal.bounds-self-from
 bounds-self-from c =
-    let l = chosen_counted c.args.self.now c.args.k c.in_ok-code.code (sym c.chosen.ensures ∙ c.in_ok-code.ensures.ok_part) in
-    let e = l.0 in
-    omega arith
+    (chosen_counted c.args.self.now c.args.k c.in_ok-code.code c.from.result (sym c.chosen.ensures ∙ c.in_ok-code.ensures.ok_part)
+    c.from.ensures).0
 
 pub overflow_sub-self : goal.overflow_sub-self
 overflow_sub-self c =
-    let l = chosen_counted c.args.self.now c.args.k c.in_ok-code.code (sym c.chosen.ensures ∙ c.in_ok-code.ensures.ok_part) in
-    let e = ap (count_in c.args.self.now.counts.now) c.from.ensures in
-    let h = l.1 in
-    omega arith
+    (chosen_counted c.args.self.now c.args.k c.in_ok-code.code c.from.result (sym c.chosen.ensures ∙ c.in_ok-code.ensures.ok_part)
+    c.from.ensures).1
 
 pub bounds-self-from-2 : goal.bounds-self-from-2
 bounds-self-from-2 c =
-    let l = chosen_counted c.args.self.now c.args.k c.in_ok-code.code (sym c.chosen.ensures ∙ c.in_ok-code.ensures.ok_part) in
-    let e = l.0 in
-    omega arith
+    (chosen_counted c.args.self.now c.args.k c.in_ok-code.code c.from.result (sym c.chosen.ensures ∙ c.in_ok-code.ensures.ok_part)
+    c.from.ensures).0
 
 pub returns : goal.returns
 returns c =
     let w = c.args.self.now in
-    let k = c.args.k in
-    let qs = take_questions (waiting (counts_of w)) in
     let is = sym c.chosen.ensures ∙ c.in_ok-code.ensures.ok_part in
-    let t = chosen_waits (counts_of w) k c.in_ok-code.code is in
+    let t = chosen_waits (counts_of w) c.args.k c.in_ok-code.code is in
     let l = t.1 in
     let m = count_waits (counts_of w) 32768 c.in_ok-code.code t.0 in
     let yes = may_take (waiting (counts_of w)) (omega arith) in
     let e = ap or_zero is in
-    record {
-      answer = grants qs (counts_kind.pick w k) c.in_ok-code.code yes (sym e);
-      after = does_change qs w (counts_kind.rest w k) _ yes (search rules);
-    }
+    record { answer = rw (yes, e); after = rw yes (search rules) }
