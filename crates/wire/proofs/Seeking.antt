@@ -127,37 +127,34 @@ module _ (g : ℕ → ℕ) where
       go None e = absurd (let m = chosen_none k e in omega arith)
 
 -- the first count above 0, from one on, is that of the smallest waiting code
-pub first_smallest :
-    (xs : List ℕ) (x : ℕ) (r s : Option ℕ) → length xs ≡ 32768 → x < 32768
-    → MatchOption r (AllWithin (λ y. y < 1) (drop x xs) 0 (length (drop x xs)))
-    (λ i.
-    (i < length (drop x xs)) × HoldsAt (λ y. 1 ≤ y) (drop x xs) i × AllWithin (λ y. y < 1) (drop x xs) 0 i)
-    → s ≡ option_map (λ i. x + i) r → s ≡ smallest (count_in xs) (32768 - x) x
-first_smallest xs x (Some i) s e l f is =
-    let long = length-drop x xs in
-    let h = f.0 in
-    let here = f.1 0 in
-    let there = get_or-drop x xs i 0 in
-    is
-    ∙ sym
-    (smallest_at (count_in xs) (32768 - x) x (x + i) (omega arith) (omega arith) (omega arith)
-    (λ z a b.
-    let w = f.2 (z - x) 0 (omega arith) (omega arith) in
-    let t = get_or-drop x xs (z - x) 0 in
-    let j : x + (z - x) ≡ z = omega arith in
-    let u = ap (count_in xs) j in
-    omega arith))
-first_smallest xs x None s e l f is =
-    let long = length-drop x xs in
-    is
-    ∙ sym
-    (smallest_none (count_in xs) (32768 - x) x
-    (λ z a b.
-    let w = f (z - x) 0 (omega arith) (omega arith) in
-    let t = get_or-drop x xs (z - x) 0 in
-    let j : x + (z - x) ≡ z = omega arith in
-    let u = ap (count_in xs) j in
-    omega arith))
+module _ (xs : List ℕ) (x : ℕ) (e : length xs ≡ 32768) (l : x < 32768) where
+  -- the counts from x on, up to i of them, are 0
+  none_there : (i : ℕ) → AllWithin (λ y. y < 1) (drop x xs) 0 i → (z : ℕ) → x ≤ z → z < x + i → count_in xs z < 1
+  none_there i f z a b =
+      let w = f (z - x) 0 (omega arith) (omega arith) in
+      let t = get_or-drop x xs (z - x) 0 in
+      let j : x + (z - x) ≡ z = omega arith in
+      let u = ap (count_in xs) j in
+      omega arith
+
+  pub first_smallest :
+      (r s : Option ℕ)
+      → MatchOption r (AllWithin (λ y. y < 1) (drop x xs) 0 (length (drop x xs)))
+      (λ i.
+      (i < length (drop x xs)) × HoldsAt (λ y. 1 ≤ y) (drop x xs) i × AllWithin (λ y. y < 1) (drop x xs) 0 i)
+      → s ≡ option_map (λ i. x + i) r → s ≡ smallest (count_in xs) (32768 - x) x
+  first_smallest (Some i) s f is =
+      let long = length-drop x xs in
+      let h = f.0 in
+      let here = f.1 0 in
+      let there = get_or-drop x xs i 0 in
+      is ∙ sym (smallest_at (count_in xs) (32768 - x) x (x + i) (omega arith) (omega arith) (omega arith) (none_there i f.2))
+  first_smallest None s f is =
+      let long = length-drop x xs in
+      is
+      ∙ sym
+      (smallest_none (count_in xs) (32768 - x) x
+      (λ z a b. none_there (length (drop x xs)) f z a (omega arith)))
 
 pub takes_smallest : TakesSmallest
 takes_smallest w k l = chosen_is w.copies k (plain_counts.pick w k) (chosen_some w.copies k l)

@@ -19,6 +19,7 @@ impl From<MessageKind> for u16 {
     }
 }
 
+// 0 is EST, any other number AUX.
 fn kind_with(number: u16) -> MessageKind
     ensures { result ≡ kind_with number }
 {
@@ -30,7 +31,8 @@ fn kind_with(number: u16) -> MessageKind
 }
 
 impl Message {
-    /// The number that the message is written as. `u16::from` would not say which number it is.
+    // A name, since `u16::from` would not say which number it gives.
+    /// The number that the message is written as.
     pub fn code(self) -> u16
         ensures { result ≡ code_of self }
     {
@@ -41,6 +43,7 @@ impl Message {
             + u16::from(self.content)
     }
 
+    // A name too, and no `TryFrom`, since every number has a message.
     /// The message with a code. A number from 32,768 on counts from 0 again.
     pub fn with_code(code: u16) -> Message
         ensures { result ≡ message_with code }

@@ -29,6 +29,7 @@ fn smallest_from(counts: &[u16], from: usize) -> Option<u16>
     requires { (length counts.now ≡ 32768) × (from < 32768) }
     ensures { result ≡ smallest (count_in counts.now) (32768 - from) from }
 {
+    // there are 32,768 counts, so a place among them is a `u16`
     counts[from..]
         .iter()
         .position(|&count| count > 0)

@@ -11,7 +11,7 @@ returns c =
     let x = c.args.from in
     let long = length-drop x xs in
     let maps : c.map.result ≡ option_map (λ i. x + i) c.position.result = search rules in
-    first_smallest xs x c.position.result c.map.result (omega arith) (omega arith)
+    first_smallest xs x (omega arith) (omega arith) c.position.result c.map.result
     (IsFirst-from_position _ _ _ (λ y. 1 ≤ y) (λ y. y < 1) c.position.ensures.ran
     (YieldsList-from_slice (drop x xs) (c.iter.ensures.rest ∙ take_all _ (drop x xs) (omega arith)))
     (λ y q k. search (rules, tests)) (λ y q k. search (rules, tests)))

@@ -24,8 +24,10 @@ bounds-self-from c =
 
 pub overflow_sub-self : goal.overflow_sub-self
 overflow_sub-self c =
-    (chosen_counted c.args.self.now c.args.k c.in_ok-code.code c.from.result (sym c.chosen.ensures ∙ c.in_ok-code.ensures.ok_part)
-    c.from.ensures).1
+    let l = chosen_counted c.args.self.now c.args.k c.in_ok-code.code c.from.result (sym c.chosen.ensures ∙ c.in_ok-code.ensures.ok_part)
+    c.from.ensures in
+    let one = l.1 in
+    omega arith
 
 pub bounds-self-from-2 : goal.bounds-self-from-2
 bounds-self-from-2 c =
