@@ -8,6 +8,7 @@ use Rattle.protocol.proofs.Seeing.{laws_seen}
 use Rattle.wire.specs.declared.counts.CountWire.{CountWire}
 use Rattle.wire.specs.PlainWires.{chosen, plain_counts}
 use Rattle.wire.specs.CountWires.{if_whole, count_in, counts_of, places_of, recounted, picked, counts_kind, pool_of}
+use Rattle.wire.proofs.Copying.{none_waiting}
 use Rattle.wire.proofs.Pools.{plain_counts_laws}
 use Rattle.wire.proofs.Seeking.{chosen_waits, chosen_some}
 
@@ -16,12 +17,6 @@ if_whole_yes xs a b e = cond-true (eqb (length xs) 32768) a b (eq-eqb (length xs
 
 pub if_whole_no : {A : Type 0} (xs : List ℕ) (a b : A) → eqb (length xs) 32768 ≡ false → if_whole xs a b ≡ b
 if_whole_no xs a b e = cond-false (eqb (length xs) 32768) a b e
-
--- no memory counts nothing
-none_counted : (m : ℕ) → waiting_below (count_in []) m ≡ 0
-unfolding waiting_below
-none_counted zero = refl
-none_counted (suc m) = let e = none_counted m in omega arith
 
 -- a count is not above the number that waits
 pub count_waits : (g : ℕ → ℕ) (m x : ℕ) → x < m → g x ≤ waiting_below g m
@@ -63,7 +58,7 @@ module _ (w : CountWire) where
           (b : Bool) → (b ≡ true → length w.counts.now ≡ 32768) → 1 ≤ waiting (count_in (cond b w.counts.now []))
           → length w.counts.now ≡ 32768
       go true is l = is refl
-      go false is l = let e = none_counted 32768 in absurd (omega arith)
+      go false is l = let e = none_waiting (count_in []) (λ y. refl) 32768 in absurd (omega arith)
 
   -- in memory of another length nothing waits
   module _ (other : eqb (length w.counts.now) 32768 ≡ false) where
@@ -71,7 +66,7 @@ module _ (w : CountWire) where
     none = ap count_in (if_whole_no w.counts.now w.counts.now [] other)
 
     pub none_held : waiting (counts_of w) ≡ 0
-    none_held = ap waiting none ∙ none_counted 32768
+    none_held = ap waiting none ∙ none_waiting (count_in []) (λ y. refl) 32768
 
     pub none_chosen : (k : ℕ) → chosen (counts_of w) k ≡ None
     none_chosen k = ap (λ (g : ℕ → ℕ). chosen g k) none ∙ go (chosen (count_in []) k) refl
