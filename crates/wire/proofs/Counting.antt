@@ -43,22 +43,10 @@ sum_counted (x ∷ xs) =
 module _ (w : CountWire) where
   -- where a place is free, or something waits, there is a count for each code
   pub whole_free : 1 ≤ free counts_kind w → length w.counts.now ≡ 32768
-  whole_free = go (eqb (length w.counts.now) 32768) (eqb-true (length w.counts.now) 32768)
-    where
-      go :
-          (b : Bool) → (b ≡ true → length w.counts.now ≡ 32768) → 1 ≤ cond b w.places 0 - waiting (counts_of w)
-          → length w.counts.now ≡ 32768
-      go true is l = is refl
-      go false is l = absurd (omega arith)
+  whole_free l = grind arith
 
   pub whole_held : 1 ≤ waiting (counts_of w) → length w.counts.now ≡ 32768
-  whole_held = go (eqb (length w.counts.now) 32768) (eqb-true (length w.counts.now) 32768)
-    where
-      go :
-          (b : Bool) → (b ≡ true → length w.counts.now ≡ 32768) → 1 ≤ waiting (count_in (cond b w.counts.now []))
-          → length w.counts.now ≡ 32768
-      go true is l = is refl
-      go false is l = let e = none_waiting (count_in []) (λ y. refl) 32768 in absurd (omega arith)
+  whole_held l = let e = none_waiting (count_in []) (λ y. refl) 32768 in grind arith
 
   -- in memory of another length nothing waits
   module _ (other : eqb (length w.counts.now) 32768 ≡ false) where
@@ -93,26 +81,12 @@ module _ (w : CountWire) where
         ap (λ (m : ℕ). cond (eqb m 32768) w.places 0) (length-set w.counts.now x n) in
         λ i. record { copies = λ y. here y i; places = room i }
 
-    -- a count after it was written
-    count_set :
-        (x n y : ℕ) (a b : ℕ) → x < 32768 → (x ≡ y → n ≡ a) → count_in w.counts.now y ≡ b
-        → count_in (set w.counts.now x n) y ≡ cond (eqb x y) a b
-    count_set x n y a b l here there = elim (cases_eq x y) [
-      | inl e ↦
-          subst (λ (u : ℕ). count_in (set w.counts.now x n) u ≡ n) e (get_or-set_same w.counts.now x n 0 (omega arith))
-          ∙ (here e ∙ sym (cond-true (eqb x y) a b (eq-eqb x y e)))
-      | inr e ↦
-          get_or-set_other w.counts.now x y n 0 (λ f. e (sym f)) ∙ (there ∙ sym (cond-false (eqb x y) a b (ne_eqb x y e)))
-    ]
-
     sent : (x : ℕ) → x < 32768 → pool_of (counts_kind.send x w) ≡ plain_counts.send x (pool_of w)
     unfolding one_more
     sent x l = recounted_pool x (count_in w.counts.now x + 1) (one_more x) more
       where
         more : (y : ℕ) → count_in (set w.counts.now x (count_in w.counts.now x + 1)) y ≡ one_more x (count_in w.counts.now) y
-        more y =
-            count_set x (count_in w.counts.now x + 1) y (suc (count_in w.counts.now y)) (count_in w.counts.now y) l
-            (λ e. let f = ap (count_in w.counts.now) e in omega arith) refl
+        more y = grind (arith, get_or-set_same, get_or-set_other)
 
     taken : (k : ℕ) → picked w k < 32768 → pool_of (counts_kind.rest w k) ≡ plain_counts.rest (pool_of w) k
     unfolding one_less
@@ -122,9 +96,7 @@ module _ (w : CountWire) where
             (y : ℕ)
             → count_in (set w.counts.now (picked w k) (count_in w.counts.now (picked w k) - 1)) y
             ≡ one_less (picked w k) (count_in w.counts.now) y
-        less y =
-            count_set (picked w k) (count_in w.counts.now (picked w k) - 1) y (count_in w.counts.now y - 1) (count_in w.counts.now y) l
-            (λ e. let f = ap (count_in w.counts.now) e in omega arith) refl
+        less y = grind (arith, get_or-set_same, get_or-set_other)
 
   -- where a place is free, each count is below the number of places
   pub count_free : (x : ℕ) → x < 32768 → 1 ≤ free counts_kind w → count_in w.counts.now x < w.places
@@ -140,13 +112,13 @@ module _ (w : CountWire) where
       (k x i : ℕ) → chosen (counts_of w) k ≡ Some x → i ≡ x → (i < length w.counts.now) × (1 ≤ count_in w.counts.now i)
   chosen_counted k x i e is =
       let t = chosen_waits (counts_of w) k x e in
-      let l = t.0 in
+      let c = count_waits (counts_of w) 32768 x t.0 in
       let h = t.1 in
-      let c = count_waits (counts_of w) 32768 x l in
-      let whole = whole_held (omega arith) in (
-        omega arith,
-        subst (λ (u : ℕ). 1 ≤ count_in w.counts.now u) (sym is) (subst (λ (g : ℕ → ℕ). 1 ≤ g x) (counts_whole whole) h),
-      )
+      let whole = whole_held (omega arith) in
+      let g = ap (λ (g : ℕ → ℕ). g x) (counts_whole whole) in
+      let f = ap (count_in w.counts.now) is in
+      let l = t.0 in
+      (omega arith, omega arith)
 
 pub counts_seen : Seen counts_kind plain_counts pool_of
 counts_seen = record {
