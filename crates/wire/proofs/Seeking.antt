@@ -1,7 +1,6 @@
 -- The smallest waiting code from one on, and the one that a count wire chooses.
-use Rattle.std.proofs.Common.{◌≡◌, ℕ, zero, suc, ◌+◌, ◌-◌, ◌%◌, ◌<◌, ◌≤◌, Bool, true, false, cond, leb, List, length, drop, ◌⊎◌, Some, None, Option, sym, refl, ap, ◌∙◌, subst, inl, inr, mod-lt, arith}
+use Rattle.std.proofs.Common.{◌≡◌, ℕ, zero, suc, ◌+◌, ◌-◌, ◌%◌, ◌<◌, ◌≤◌, List, length, drop, ◌⊎◌, Some, None, Option, sym, refl, ap, ◌∙◌, inl, inr, mod-lt, arith}
 use native.Mathlib.Decide.{ℕ_discrete, dec_le}
-use Rattle.std.proofs.lemmas.Bool.{leb-true, leb-false, le-leb, lt-leb}
 use Rattle.std.specs.List.{AllWithin, HoldsAt}
 use Rattle.std.specs.Option.{MatchOption, option_map}
 use Rattle.std.proofs.lemmas.List.{length-drop, get_or-drop}
@@ -9,7 +8,7 @@ use Rattle.wire.specs.CountWires.{count_in}
 use Rattle.protocol.specs.Options.{first_of}
 use Rattle.protocol.specs.Wires.{waiting}
 use Rattle.protocol.proofs.Copies.{waiting_some}
-use Rattle.protocol.proofs.Options.{none_some, some_same}
+use Rattle.protocol.proofs.Options.{none_some}
 use Rattle.wire.specs.PlainWires.{smallest, chosen, or_zero, plain_counts}
 use Rattle.wire.specs.Smallest.{SmallestFrom, NoneFrom, TakesSmallest}
 
@@ -19,67 +18,51 @@ module _ (g : ℕ → ℕ) where
       (n x y : ℕ) → x ≤ y → y < x + n → 1 ≤ g y → ((z : ℕ) → x ≤ z → z < y → g z < 1) → smallest g n x ≡ Some y
   unfolding smallest
   smallest_at zero x y a b w none = absurd (omega arith)
-  smallest_at (suc n) x y a b w none = elim (ℕ_discrete x y) [
-    | yes same ↦ rw (le-leb 1 (g x) (let e = ap g same in omega arith)) (ap Some same)
-    | no other ↦
-        rw (lt-leb 1 (g x) (none x (omega arith) (omega arith)))
-        (smallest_at n (suc x) y (omega arith) (omega arith) w (λ z c d. none z (omega arith) d))
-  ]
+  smallest_at (suc n) x y a b w none =
+      let here : x < y → g x < 1 = none x (omega arith) in
+      let ih : x < y → smallest g n (suc x) ≡ Some y =
+      λ l. smallest_at n (suc x) y l (omega arith) w (λ z c d. none z (omega arith) d) in
+      let e : x ≡ y → g x ≡ g y = λ same. ap g same in
+      grind arith
 
   -- and finds none where none waits
   smallest_none : (n x : ℕ) → ((z : ℕ) → x ≤ z → z < x + n → g z < 1) → smallest g n x ≡ None
   unfolding smallest
   smallest_none zero x none = refl
   smallest_none (suc n) x none =
-      rw (lt-leb 1 (g x) (none x (omega arith) (omega arith)))
-      (smallest_none n (suc x) (λ z a b. none z (omega arith) (omega arith)))
+      let ih = smallest_none n (suc x) (λ z a b. none z (omega arith) (omega arith)) in
+      let here = none x (omega arith) (omega arith) in
+      grind arith
 
   -- what is found is the smallest of those that wait
   found : (n x y : ℕ) → x + n ≤ 32768 → smallest g n x ≡ Some y → SmallestFrom g x y
   unfolding smallest
   found zero x y l e = none_some y e
-  found (suc n) x y l e = go (leb 1 (g x)) refl (found n (suc x) y (omega arith)) e
-    where
-      here : g x < 1 → SmallestFrom g (suc x) y → (z : ℕ) → x ≤ z → z < y → g z ≡ 0
-      here w s z m k = elim (ℕ_discrete x z) [
-        | yes same ↦ let f = ap g same in omega arith
-        | no other ↦ s.none_before z (omega arith) k
-      ]
-
-      go :
-          (b : Bool) → leb 1 (g x) ≡ b → (smallest g n (suc x) ≡ Some y → SmallestFrom g (suc x) y)
-          → cond b (Some x) (smallest g n (suc x)) ≡ Some y → SmallestFrom g x y
-      go true t ih f =
-          subst (SmallestFrom g x) (some_same x y f)
-          record {
-            at_least = omega arith;
-            a_code = omega arith;
-            waits = leb-true 1 (g x) t;
-            none_before = λ z m k. absurd (omega arith);
-          }
-      go false t ih f =
-          let s = ih f in
-          record {
-            at_least = let m = s.at_least in omega arith;
-            a_code = s.a_code;
-            waits = s.waits;
-            none_before = here (leb-false 1 (g x) t) s;
-          }
+  found (suc n) x y l e = elim (dec_le 1 (g x)) [
+    | yes w ↦
+        let same : x ≡ y = grind arith in
+        let f = ap g same in
+        record { at_least = omega arith; a_code = omega arith; waits = omega arith; none_before = λ z m k. absurd (omega arith) }
+    | no w ↦
+        let s = found n (suc x) y (omega arith) (grind arith) in
+        record {
+          at_least = let m = s.at_least in omega arith;
+          a_code = s.a_code;
+          waits = s.waits;
+          none_before = λ z m k. elim (ℕ_discrete x z) [
+            | yes same ↦ let f = ap g same in omega arith
+            | no other ↦ s.none_before z (omega arith) k
+          ];
+        }
+  ]
 
   -- where nothing is found, none waits
   not_found : (n x : ℕ) → smallest g n x ≡ None → (y : ℕ) → x ≤ y → y < x + n → g y ≡ 0
   unfolding smallest
   not_found zero x e y l m = absurd (omega arith)
-  not_found (suc n) x e y l m = go (leb 1 (g x)) refl (not_found n (suc x)) e
-    where
-      go :
-          (b : Bool) → leb 1 (g x) ≡ b → (smallest g n (suc x) ≡ None → (z : ℕ) → suc x ≤ z → z < suc x + n → g z ≡ 0)
-          → cond b (Some x) (smallest g n (suc x)) ≡ None → g y ≡ 0
-      go true t ih f = none_some x (sym f)
-      go false t ih f = elim (ℕ_discrete x y) [
-        | yes same ↦ let w = leb-false 1 (g x) t in let h = ap g same in omega arith
-        | no other ↦ ih f y (omega arith) (omega arith)
-      ]
+  not_found (suc n) x e y l m =
+      let ih : smallest g n (suc x) ≡ None → suc x ≤ y → g y ≡ 0 = λ f a. not_found n (suc x) f y a (omega arith) in
+      grind arith
 
   -- the code that is chosen
   abbrev Chosen : ℕ → ℕ → Type 0
