@@ -1,6 +1,5 @@
 -- What a caller learns from a send and a take, over any kind of wire.
-use Rattle.std.proofs.Common.{◌≡◌, ℕ, ◌<◌, ◌≤◌, cond, eqb, Ok, Err, Result, sym, refl, ap, ◌∙◌, arith}
-use Rattle.protocol.specs.declared.refusal.Refusal.{Refusal}
+use Rattle.std.proofs.Common.{◌≡◌, ℕ, ◌<◌, ◌≤◌, cond, eqb, Ok, Err, Result, refl, ap, ◌∙◌, arith}
 use Rattle.protocol.specs.Refusals.{answer, granted, leaves, changed, told}
 use Rattle.protocol.specs.Wires.{Wire, waiting, free}
 use Rattle.wire.specs.declared.fault.WireFault.{WireFault}
@@ -20,14 +19,12 @@ fault_back Empty = refl
 
 -- so an answer of a wire is known by its meaning
 told_ok : {A : Type 0} (r : Result A WireFault) (x : A) → told (λ u. u) refusal_of r ≡ Ok x → r ≡ Ok x
-told_ok (Ok u) x e = let f : u ≡ x = cc in ap Ok f
-told_ok (Err f) x e = let z : ◌≡◌ {A = ℕ} 0 1 = cc in absurd (omega arith)
+told_ok (Ok u) x e = cc
+told_ok (Err f) x e = grind arith
 
 told_err : {A : Type 0} (r : Result A WireFault) (f : WireFault) → told (λ u. u) refusal_of r ≡ Err (refusal_of f) → r ≡ Err f
-told_err (Ok u) f e = let z : ◌≡◌ {A = ℕ} 0 1 = cc in absurd (omega arith)
-told_err (Err g) f e =
-    let h : refusal_of g ≡ refusal_of f = cc in
-    ap Err (fault_back g ∙ (ap (λ (q : Refusal). fault_with q.number) h ∙ sym (fault_back f)))
+told_err (Ok u) f e = grind arith
+told_err (Err g) f e = let a = fault_back g in let b = fault_back f in grind arith
 
 module _ {W : Type 0} (K : Wire W) (w t : W) where
   -- a send that left t
