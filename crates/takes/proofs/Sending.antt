@@ -13,7 +13,7 @@ use Rattle.takes.specs.Samples.{both_sent, both_questions, one_taken}
 
 -- an answer is not both
 ok_err : {A B : Type 0} (r : Result A WireFault) (x : A) (f : WireFault) → r ≡ Ok x → r ≡ Err f → B
-ok_err r x f e h = let z : ◌≡◌ {A = ℕ} 0 1 = cc in absurd (omega arith)
+ok_err r x f e h = grind arith
 
 module _ {W : Type 0} (K : Wire W) (L : WireLaws K) (w : W) where
   -- a send of x on the wire v that answered s and left u

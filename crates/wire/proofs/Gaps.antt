@@ -19,9 +19,8 @@ pub copied : {A : Type 0} (xs : List A) (i n : ℕ) → i < n → copy_within xs
 copied xs i n l =
     let a : n - (i + 1) ≡ n - 1 - i = omega arith in
     let b : i + (n - (i + 1)) ≡ n - 1 = omega arith in
-    ap (λ (k : ℕ). take i xs ++ take (n - (i + 1)) (drop k xs) ++ drop (i + (n - (i + 1))) xs) (add-one i)
-    ∙ ap (λ (k : ℕ). take i xs ++ take k (drop (suc i) xs) ++ drop (i + (n - (i + 1))) xs) a
-    ∙ ap (λ (k : ℕ). take i xs ++ take (n - 1 - i) (drop (suc i) xs) ++ drop k xs) b
+    let c = add-one i in
+    cc
 
 -- of the first n elements, the one at i is gone
 pub moved_front :
