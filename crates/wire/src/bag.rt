@@ -8,7 +8,7 @@ use super::meaning::Wire;
 use super::message::Message;
 
 /// The first `waiting` of the messages wait, the oldest first; what stands after them means nothing.
-// The list is lent by the caller, so a number beside it says how many wait.
+// The caller lends the list, so a number beside it says how many of its messages wait.
 #[derive(Drop)]
 pub struct Bag<'a> {
     messages: &'a mut [Message],

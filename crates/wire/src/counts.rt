@@ -9,7 +9,7 @@ use super::fault::WireFault;
 use super::meaning::Wire;
 
 /// How many copies of each code wait, and the number of places. In memory of another length nothing waits, and there is no place.
-// The counts are lent by the caller, so a wire may find a length that fits no codes.
+// The caller lends the counts, so there may be more or fewer of them than codes.
 #[derive(Drop)]
 pub struct CountWire<'a> {
     counts: &'a mut [u16],
@@ -77,6 +77,7 @@ impl<'a> Wire for CountWire<'a> {
     }
 
     fn held(&self) -> usize {
+        // a `u32` fits a `usize`, though no `From` says so
         if self.whole() {
             total(self.counts) as usize
         } else {
