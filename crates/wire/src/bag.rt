@@ -45,10 +45,12 @@ impl<'a> Wire for Bag<'a> {
         self.waiting.min(self.places())
     }
 
-    fn put(&mut self, code: u16) {
+    fn send(&mut self, code: u16) -> Result<(), WireFault> {
+        self.may_send(code)?;
         let held = self.held();
         self.messages[held] = Message::with_code(code);
         self.waiting = held + 1;
+        Ok(())
     }
 
     fn take(&mut self, k: u16) -> Result<u16, WireFault> {

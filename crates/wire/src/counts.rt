@@ -85,11 +85,10 @@ impl<'a> Wire for CountWire<'a> {
         }
     }
 
-    fn put(&mut self, code: u16) {
-        let code = usize::from(code);
-        // a count is at most the number that waits, and a place is free
-        prove!(self.counts[code] < self.places);
-        self.counts[code] += 1;
+    fn send(&mut self, code: u16) -> Result<(), WireFault> {
+        self.may_send(code)?;
+        self.counts[usize::from(code)] += 1;
+        Ok(())
     }
 
     fn take(&mut self, k: u16) -> Result<u16, WireFault> {

@@ -1,5 +1,5 @@
 //! What every wire means, and what its calls answer and leave.
-ghost use Rattle.std.specs.Prelude.{◌≡◌, ◌<◌, ◌≤◌};
+ghost use Rattle.std.specs.Prelude.{◌≡◌};
 ghost use Rattle.protocol.specs.Refusals.{answer, leaves, told};
 ghost use Rattle.protocol.specs.Wires.{Wire as Kind, WireLaws, waiting as all_waiting, free as free_places};
 ghost use Rattle.wire.specs.Refused.{send_questions, take_questions, refusal_of, capped};
@@ -24,10 +24,10 @@ pub trait Wire {
     fn held(&self) -> usize
         ensures { result ≡ all_waiting (kind.copies self.now) };
 
-    /// Adds one copy of a code where a place is free.
-    fn put(&mut self, code: u16)
-        requires { (code < 32768) × (1 ≤ free_places kind self.old) }
-        ensures { self.new ≡ kind.send code self.old };
+    /// Adds one copy of a code.
+    fn send(&mut self, code: u16) -> Result<(), WireFault>
+        ensures answer { told (λ x. x) refusal_of result ≡ answer (send_questions code (free_places kind self.old)) tt }
+        ensures after { self.new ≡ leaves (send_questions code (free_places kind self.old)) self.old (kind.send code self.old) };
 
     // Each kind asks for itself whether a copy waits: a count wire learns it from its search, far faster than from the sum.
     /// Removes one waiting copy, chosen by a number, and answers its code.
@@ -49,10 +49,9 @@ pub trait Wire {
         self.places().saturating_sub(self.held()).min(65535) as u16
     }
 
-    /// Adds one copy of a code.
-    fn send(&mut self, code: u16) -> Result<(), WireFault>
-        ensures answer { told (λ x. x) refusal_of result ≡ answer (send_questions code (free_places kind self.old)) tt }
-        ensures after { self.new ≡ leaves (send_questions code (free_places kind self.old)) self.old (kind.send code self.old) }
+    /// Whether a send of a code would be accepted.
+    fn may_send(&self, code: u16) -> Result<(), WireFault>
+        ensures { told (λ x. x) refusal_of result ≡ answer (send_questions code (free_places kind self.now)) tt }
     {
         if code >= CODES {
             return Err(WireFault::Code);
@@ -60,7 +59,6 @@ pub trait Wire {
         if self.held() >= self.places() {
             return Err(WireFault::Full);
         }
-        self.put(code);
         Ok(())
     }
 }
