@@ -1,2 +1,3 @@
+pub mod Making
 pub mod Marking
-pub mod Fairness
+pub mod Counting

@@ -1,10 +1,10 @@
 -- The seven laws of any franchise by votes whose sum is above three times the threshold.
-use Rattle.std.proofs.Common.{◌≡◌, ℕ, ◌+◌, ◌*◌, ◌<◌, ◌≤◌, true, ◌&&◌, List, take, ◌⊎◌, inl, inr, arith}
+use Rattle.std.proofs.Common.{◌≡◌, ℕ, ◌+◌, ◌*◌, ◌<◌, ◌≤◌, true, ◌&&◌, ◌⊎◌, inl, inr, arith}
 use Rattle.std.proofs.lemmas.Bool.{leb-true, le-leb, cases_Bool, and_parts, and_from, not_from_false, cases_lt}
 use Rattle.protocol.specs.Sets.{Set, empty, less, all_less, Within}
 use Rattle.protocol.specs.Laws.{Laws, Parts, Growth, Outside, Remains, Others, Shared, Halves}
-use Rattle.franchise.specs.Weights.{weight, whole, listed}
-use Rattle.franchise.specs.Polls.{Poll, heads, table_poll, facts_of}
+use Rattle.franchise.specs.Weights.{weight, whole}
+use Rattle.franchise.specs.Polls.{Poll, Outvoted, heads, facts_of}
 use Rattle.franchise.specs.Arithmetic.{none, cover, meet, find, whole_ones}
 
 -- a member of a set is faulty, or left in it when the faulty leave
@@ -58,7 +58,7 @@ module _ (p : Poll) where
       (λ i l e. elim (cases_Bool (faulty i)) [ inl y ↦ inr y | inr z ↦ inl (not_from_false _ z) ]) in
       omega arith
 
-  module _ (few : 3 * p.threshold < total) where
+  module _ (few : Outvoted p) where
     others : Others (facts_of p)
     others faulty x = let r = rest faulty x in (le-leb _ _ (omega arith), le-leb _ _ (omega arith))
 
@@ -100,12 +100,6 @@ module _ (p : Poll) where
       halves = halves;
     }
 
--- the laws at one vote each
-pub heads_laws : (n t : ℕ) → 3 * t < n → Laws (facts_of (heads n t))
-heads_laws n t few = let e = whole_ones n in laws (heads n t) (omega arith)
-
--- the laws at the votes of a table
-pub table_laws :
-    (n : ℕ) (table : List ℕ) (t total : ℕ) → total ≡ whole (listed (take n table)) n → 3 * t < total
-    → Laws (facts_of (table_poll n table t))
-table_laws n table t total sum few = laws (table_poll n table t) (omega arith)
+-- n processes with one vote each have n votes
+pub heads_outvoted : (n t : ℕ) → 3 * t < n → Outvoted (heads n t)
+heads_outvoted n t few = let e = whole_ones n in omega arith

@@ -1,5 +1,6 @@
 -- When a franchise is refused.
-use Rattle.std.specs.Prelude.{ℕ, ◌*◌, Bool, true, ◌&&◌, List, [], ◌∷◌, length, nat_le, nat_lt}
+use Rattle.std.specs.Prelude.{ℕ, ◌*◌, Bool, ◌&&◌, List, [], ◌∷◌, length, nat_le, nat_lt}
+use Rattle.std.specs.List.{list_all}
 use Rattle.protocol.specs.declared.refusal.Layer.TheVariants.{Franchise}
 use Rattle.protocol.specs.declared.refusal.Refusal.{Refusal}
 use Rattle.protocol.specs.Refusals.{Question, ask, in_range}
@@ -14,8 +15,7 @@ fair_vote v = nat_le 1 v && nat_le v 1000
 
 -- every vote is
 abbrev pub fair : List ℕ → Bool
-fair [] = true
-fair (v ∷ vs) = fair_vote v && fair vs
+fair vs = list_all fair_vote vs
 
 -- the sum of the votes is above three times the threshold
 abbrev pub outvotes : Poll → Bool

@@ -4,7 +4,7 @@ ghost use Rattle.franchise.specs.Refused.{refusal_of};
 
 use protocol::refusal::{Layer, Refusal};
 
-#[derive(Clone, Copy)]
+#[derive(Clone, Copy, PartialEq, Eq, Debug)]
 pub enum FranchiseFault {
     /// the number of processes is not from 1 to 16
     Size,
@@ -14,12 +14,12 @@ pub enum FranchiseFault {
     Threshold,
 }
 
-impl FranchiseFault {
-    /// Its number and the layer where it arose.
-    pub fn refusal(self) -> Refusal
-        ensures { result ≡ refusal_of self }
-    {
-        let number = match self {
+/// Its number and the layer where it arose.
+impl From<FranchiseFault> for Refusal {
+    ghost from_gives = { λ f r. r ≡ refusal_of f };
+
+    fn from(fault: FranchiseFault) -> Refusal {
+        let number = match fault {
             FranchiseFault::Size => 11,
             FranchiseFault::Vote => 13,
             FranchiseFault::Threshold => 14,

@@ -2,12 +2,12 @@
 ghost use Rattle.std.specs.Prelude.{◌≡◌, ◌*◌, ◌<◌, ◌≤◌};
 ghost use Rattle.protocol.specs.Refusals.{answer, told};
 ghost use Rattle.franchise.specs.Marks.{set_of};
-ghost use Rattle.franchise.specs.Polls.{heads as heads_poll, tally as tally_of, facts_of};
+ghost use Rattle.franchise.specs.Polls.{heads as heads_poll};
 ghost use Rattle.franchise.specs.Refused.{heads_questions, refusal_of};
-ghost use Rattle.franchise.specs.Lawful.{heads_laws};
+ghost use Rattle.franchise.specs.Lawful.{heads_outvoted};
 
+use super::counted::Counted;
 use super::fault::FranchiseFault;
-use super::laws::Franchise;
 use super::members::Members;
 use super::tally::{Tally, Threshold};
 
@@ -23,7 +23,7 @@ impl Heads {
     pub fn new(size: u8, threshold: Threshold) -> Result<Heads, FranchiseFault>
         ensures { told (λ h. heads_poll h.size h.threshold) refusal_of result ≡ answer (heads_questions size threshold) (heads_poll size threshold) }
     {
-        if size < 1 || size > 16 {
+        if !(1..=16).contains(&size) {
             return Err(FranchiseFault::Size);
         }
         if u64::from(size) <= 3 * u64::from(threshold) {
@@ -31,58 +31,22 @@ impl Heads {
         }
         Ok(Heads { size, threshold })
     }
-
-    fn tally(&self, set: &Members) -> Tally
-        ensures { result ≡ tally_of (heads_poll self.now.size self.now.threshold) (set_of set.now) }
-    {
-        let mut votes = 0;
-        for process in 0..self.size {
-            if set.contains(process) {
-                votes += 1;
-            }
-        }
-        Tally {
-            votes,
-            total: u64::from(self.size),
-            threshold: self.threshold,
-        }
-    }
 }
 
-impl Franchise for Heads {
-    ghost facts = { λ h. facts_of (heads_poll h.size h.threshold) };
+impl Counted for Heads {
+    ghost poll = { λ h. heads_poll h.size h.threshold };
 
-    ghost parts = { λ x. (heads_laws x.size x.threshold x.few.1).parts };
+    ghost outvoted = { λ h. heads_outvoted h.size h.threshold h.few.1 };
 
-    ghost growth = { λ x. (heads_laws x.size x.threshold x.few.1).growth };
-
-    ghost outside = { λ x. (heads_laws x.size x.threshold x.few.1).outside };
-
-    ghost remains = { λ x. (heads_laws x.size x.threshold x.few.1).remains };
-
-    ghost others = { λ x. (heads_laws x.size x.threshold x.few.1).others };
-
-    ghost shared = { λ x. (heads_laws x.size x.threshold x.few.1).shared };
-
-    ghost halves = { λ x. (heads_laws x.size x.threshold x.few.1).halves };
-
-    fn size(&self) -> usize {
+    fn processes(&self) -> usize {
         usize::from(self.size)
     }
 
-    fn tolerable(&self, set: &Members) -> bool {
-        self.tally(set).tolerable()
-    }
-
-    fn believed(&self, set: &Members) -> bool {
-        self.tally(set).believed()
-    }
-
-    fn accepted(&self, set: &Members) -> bool {
-        self.tally(set).accepted()
-    }
-
-    fn closing(&self, set: &Members) -> bool {
-        self.tally(set).closing()
+    fn tally(&self, set: &Members) -> Tally {
+        Tally {
+            votes: set.count_below(self.size) as u64,
+            total: u64::from(self.size),
+            threshold: self.threshold,
+        }
     }
 }

@@ -1,9 +1,12 @@
 //! Sets of at most 16 processes.
-ghost use Rattle.std.specs.Prelude.{◌≡◌, if◌then◌else◌, nat_lt};
+ghost use Rattle.std.specs.Prelude.{◌≡◌, if◌then◌else◌, nat_lt, count_by};
+ghost use Rattle.std.specs.List.{range_with_len};
 ghost use Rattle.protocol.specs.Sets.{empty as no_process, joined, either, bits as set_bits};
 ghost use Rattle.franchise.specs.Marks.{set_of, nobody, with_mark, united};
 
-#[derive(Clone, Copy)]
+use std::array;
+
+#[derive(Clone, Copy, PartialEq, Eq, Debug)]
 pub struct Members {
     marks: [bool; 16],
 }
@@ -21,18 +24,26 @@ impl Members {
     pub fn from_bits(bits: u16) -> Members
         ensures members { set_of result ≡ set_bits bits }
     {
-        let mut marks = [false; 16];
-        for i in 0..16 {
-            marks[i] = (bits >> i) % 2 == 1;
+        Members {
+            marks: array::from_fn(|i| (bits >> i) % 2 == 1),
         }
-        Members { marks }
     }
 
     /// Whether a process is in the set. No process from 16 on is.
     pub fn contains(&self, process: u8) -> bool
         ensures { result ≡ set_of self.now process }
     {
-        process < 16 && self.marks[process as usize]
+        self.marks
+            .get(usize::from(process))
+            .copied()
+            .unwrap_or(false)
+    }
+
+    /// How many of the processes below a number are in the set.
+    pub fn count_below(&self, end: u8) -> usize
+        ensures { result ≡ count_by (set_of self.now) (range_with_len 0 end) }
+    {
+        (0..end).filter(|process| self.contains(*process)).count()
     }
 
     /// Puts a process into the set. A process from 16 on changes nothing.
@@ -40,8 +51,9 @@ impl Members {
         ensures value { self.new ≡ with_mark self.old process }
         ensures members { set_of self.new ≡ (if nat_lt process 16 then joined (set_of self.old) process else set_of self.old) }
     {
+        // A write through `get_mut` of an array is not proved to reach the array.
         if process < 16 {
-            self.marks[process as usize] = true;
+            self.marks[usize::from(process)] = true;
         }
     }
 
@@ -50,10 +62,8 @@ impl Members {
         ensures value { result ≡ united self.now other.now }
         ensures members { set_of result ≡ either (set_of self.now) (set_of other.now) }
     {
-        let mut marks = [false; 16];
-        for i in 0..16 {
-            marks[i] = self.marks[i] || other.marks[i];
+        Members {
+            marks: array::from_fn(|i| self.marks[i] || other.marks[i]),
         }
-        Members { marks }
     }
 }

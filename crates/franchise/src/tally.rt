@@ -6,7 +6,7 @@ ghost use Rattle.franchise.specs.Polls.{tolerable as is_tolerable, believed as i
 pub type Threshold = u16;
 
 #[derive(Clone, Copy)]
-pub(crate) struct Tally {
+pub struct Tally {
     /// the votes of the set
     pub votes: u64,
     /// the votes of all processes
@@ -15,25 +15,25 @@ pub(crate) struct Tally {
 }
 
 impl Tally {
-    pub(crate) fn tolerable(&self) -> bool
+    pub fn tolerable(&self) -> bool
         ensures { result ≡ is_tolerable self.now }
     {
         self.votes <= u64::from(self.threshold)
     }
 
-    pub(crate) fn believed(&self) -> bool
+    pub fn believed(&self) -> bool
         ensures { result ≡ is_believed self.now }
     {
         self.votes >= u64::from(self.threshold) + 1
     }
 
-    pub(crate) fn accepted(&self) -> bool
+    pub fn accepted(&self) -> bool
         ensures { result ≡ is_accepted self.now }
     {
         self.votes >= 2 * u64::from(self.threshold) + 1
     }
 
-    pub(crate) fn closing(&self) -> bool
+    pub fn closing(&self) -> bool
         ensures { result ≡ is_closing self.now }
     {
         self.votes >= self.total.saturating_sub(u64::from(self.threshold))

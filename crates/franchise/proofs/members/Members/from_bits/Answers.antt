@@ -1,18 +1,14 @@
-use Rattle.std.proofs.Common.{◌^◌, ◌<◌, false, arith, length-set, rules}
-use Rattle.std.proofs.lemmas.List.Edits.{fill_by_more}
+use Rattle.std.proofs.Common.{◌^◌, ◌<◌, false, rules}
 use Rattle.protocol.specs.Sets.{bits}
+use Rattle.franchise.proofs.Making.{made_at}
 use Rattle.franchise.proofs.Marking.{bits_marks}
 use Rattle.franchise.proofs.members.Members.from_bits.Goals as goal
-
-pub loop-i-preserved : goal.loop-i-preserved
-loop-i-preserved c = (
-  simp length-set c.loop-i.invariant.0,
-  fill_by_more (bits c.args.bits) c.loop-i.marks c.loop-i.i false (omega arith) c.loop-i.invariant.1,
-)
 
 pub returns : goal.returns
 returns c =
     let small : c.args.bits < 2 ^ 16 = search rules in
+    let made = c.from_fn.ensures.items in
     record {
-      members = bits_marks c.args.bits c.loop-i.marks small c.loop-i.invariant.0 (λ k h. c.loop-i.invariant.1 k (omega arith));
+      members = bits_marks c.args.bits c.from_fn.result small made.long
+          (λ k h. made_at _ (bits c.args.bits) _ c.from_fn.result 16 (λ i y q l e. search rules) made k h false);
     }

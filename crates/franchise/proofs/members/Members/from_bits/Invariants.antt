@@ -1,6 +1,0 @@
-use Rattle.std.proofs.Common.{◌≡◌, ℕ, ◌<◌, false, length, get_or}
-use Rattle.protocol.specs.Sets.{bits}
-use Rattle.franchise.proofs.members.Members.from_bits.Given as goal
-
-abbrev pub invariant-loop-i : goal.invariant-loop-i
-invariant-loop-i l = (length l.marks ≡ 16) × ((k : ℕ) → k < l.i → get_or l.marks k false ≡ bits l.bits k)
