@@ -26,19 +26,7 @@ pub trait Counted {
 impl<C: Counted> Franchise for C {
     ghost facts = { λ x. facts_of (C.poll x) };
 
-    ghost parts = { λ x. (laws (C.poll x) (C.outvoted x)).parts };
-
-    ghost growth = { λ x. (laws (C.poll x) (C.outvoted x)).growth };
-
-    ghost outside = { λ x. (laws (C.poll x) (C.outvoted x)).outside };
-
-    ghost remains = { λ x. (laws (C.poll x) (C.outvoted x)).remains };
-
-    ghost others = { λ x. (laws (C.poll x) (C.outvoted x)).others };
-
-    ghost shared = { λ x. (laws (C.poll x) (C.outvoted x)).shared };
-
-    ghost halves = { λ x. (laws (C.poll x) (C.outvoted x)).halves };
+    ghost laws = { λ x. laws (C.poll x) (C.outvoted x) };
 
     fn size(&self) -> usize {
         self.processes()

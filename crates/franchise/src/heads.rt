@@ -20,6 +20,7 @@ pub struct Heads {
 
 impl Heads {
     /// One vote for each of `size` processes.
+    #[tactic(auto, using(crate::specs::Arithmetic::whole_ones))]
     pub fn new(size: u8, threshold: Threshold) -> Result<Heads, FranchiseFault>
         ensures { told (λ h. heads_poll h.size h.threshold) refusal_of result ≡ answer (heads_questions size threshold) (heads_poll size threshold) }
     {

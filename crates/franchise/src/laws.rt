@@ -1,7 +1,7 @@
 //! What every franchise means, and the laws that it keeps.
 ghost use Rattle.std.specs.Prelude.{◌≡◌};
 ghost use Rattle.protocol.specs.Facts.{Facts};
-ghost use Rattle.protocol.specs.Laws.{Laws, IgnoresOthers, Parts, Growth, Outside, Remains, Others, Shared, Halves};
+ghost use Rattle.protocol.specs.Laws.{Laws, IgnoresOthers};
 ghost use Rattle.franchise.specs.Marks.{set_of};
 
 use super::members::Members;
@@ -30,19 +30,8 @@ pub trait Franchise {
     fn closing(&self, set: &Members) -> bool
         ensures { result ≡ (facts self.now).closing (set_of set.now) };
 
-    ghost parts: { (x : Self) → Parts (facts x) };
-
-    ghost growth: { (x : Self) → Growth (facts x) };
-
-    ghost outside: { (x : Self) → Outside (facts x) };
-
-    ghost remains: { (x : Self) → Remains (facts x) };
-
-    ghost others: { (x : Self) → Others (facts x) };
-
-    ghost shared: { (x : Self) → Shared (facts x) };
-
-    ghost halves: { (x : Self) → Halves (facts x) };
+    /// It keeps all seven laws.
+    ghost laws: { (x : Self) → Laws (facts x) };
 }
 
 /// Every franchise keeps all seven laws.

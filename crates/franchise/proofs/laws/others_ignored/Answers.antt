@@ -3,6 +3,6 @@ use Rattle.franchise.proofs.laws.others_ignored.Goals as goal
 
 pub returns : goal.returns
 returns g c =
-    let met = g.met.F.Franchise in
     let x = c.args.franchise.now in
-    ignores_others (g.F.Franchise.facts x) (met.parts x) (met.growth x)
+    let laws = g.met.F.Franchise.laws x in
+    ignores_others (g.F.Franchise.facts x) laws.parts laws.growth
