@@ -12,7 +12,6 @@ use Rattle.protocol.specs.Play.{Configuration, admitted, landing, outcome_of, ne
 use Rattle.protocol.proofs.Asking.{asked_yes, asked_then}
 use Rattle.protocol.proofs.Codes.{payload_back, payload_numbers}
 use Rattle.protocol.proofs.Invariant.{Round}
-use Rattle.protocol.proofs.Options.{none_some}
 
 -- some payload is there
 there : (o : Option Payload) → not (absent o) ≡ true → (p : Payload) × (o ≡ Some p)
@@ -26,7 +25,7 @@ module _ {A : Type 0} (b : Bool) (o : Option A) (x : A) where
     where
       go : (t : Bool) → cond t o None ≡ Some x → (t ≡ true) × (o ≡ Some x)
       go true e = (refl, e)
-      go false e = none_some x e
+      go false e = absurd cc
 
 -- a message that may be sent, and what it says
 pub record Admitted (S : Setting) (m : Message) (p : Payload) : Type 0 where

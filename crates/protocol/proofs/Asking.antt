@@ -1,8 +1,7 @@
 -- Asking one list of questions after another.
-use Rattle.std.proofs.Common.{◌≡◌, ℕ, Bool, true, false, cond, List, [], ◌∷◌, ◌++◌, Some, None, Ok, Err, Option, sym, refl, ap, ◌∙◌, arith}
+use Rattle.std.proofs.Common.{◌≡◌, Bool, true, false, cond, List, [], ◌∷◌, ◌++◌, Some, None, Ok, Err, Option, sym, refl, ap, ◌∙◌}
 use Rattle.protocol.specs.declared.refusal.Refusal.{Refusal}
 use Rattle.protocol.specs.Refusals.{Question, first_no, granted, answer, changed, leaves}
-use Rattle.protocol.proofs.Options.{none_some}
 
 -- no question of the first list is answered no
 pub then_asked : (xs ys : List Question) → first_no xs ≡ None → first_no (xs ++ ys) ≡ first_no ys
@@ -12,11 +11,11 @@ then_asked (x ∷ xs) ys e = go x.holds (then_asked xs ys) e where
       (b : Bool) → (first_no xs ≡ None → first_no (xs ++ ys) ≡ first_no ys)
       → cond b (first_no xs) (Some x.refusal) ≡ None → cond b (first_no (xs ++ ys)) (Some x.refusal) ≡ first_no ys
   go true rest h = rest h
-  go false rest h = none_some x.refusal (sym h)
+  go false rest h = absurd cc
 
 -- one is
 pub still_refused : (xs ys : List Question) (r : Refusal) → first_no xs ≡ Some r → first_no (xs ++ ys) ≡ Some r
-still_refused [] ys r e = none_some r e
+still_refused [] ys r e = absurd cc
 still_refused (x ∷ xs) ys r e = go x.holds (still_refused xs ys r) e where
   go :
       (b : Bool) → (first_no xs ≡ Some r → first_no (xs ++ ys) ≡ Some r)
@@ -27,24 +26,24 @@ still_refused (x ∷ xs) ys r e = go x.holds (still_refused xs ys r) e where
 -- what an answer says of the questions
 pub granted_none : {A : Type 0} (o : Option Refusal) (x z : A) → Ok z ≡ granted x o → (o ≡ None) × (z ≡ x)
 granted_none None x z e = (refl, cc)
-granted_none (Some r) x z e = let w : ◌≡◌ {A = ℕ} 0 1 = cc in absurd (omega arith)
+granted_none (Some r) x z e = absurd cc
 
 pub refused_some : {A : Type 0} (o : Option Refusal) (x : A) (r : Refusal) → Err r ≡ granted x o → o ≡ Some r
-refused_some None x r e = let w : ◌≡◌ {A = ℕ} 0 1 = cc in absurd (omega arith)
+refused_some None x r e = absurd cc
 refused_some (Some q) x r e = cc
 
 -- a question that is answered yes, and those that follow it
 pub asked_yes : (b : Bool) (r : Refusal) (rest : Option Refusal) → cond b rest (Some r) ≡ None → b ≡ true
 asked_yes true r rest e = refl
-asked_yes false r rest e = none_some r (sym e)
+asked_yes false r rest e = absurd cc
 
 pub asked_then : (b : Bool) (r : Refusal) (rest : Option Refusal) → cond b rest (Some r) ≡ None → rest ≡ None
 asked_then true r rest e = e
-asked_then false r rest e = none_some r (sym e)
+asked_then false r rest e = absurd cc
 
 -- a last question that is answered no
 pub asked_no : (b : Bool) (q r : Refusal) → cond b None (Some q) ≡ Some r → (b ≡ false) × (q ≡ r)
-asked_no true q r e = none_some r e
+asked_no true q r e = absurd cc
 asked_no false q r e = (refl, cc)
 
 -- a call whose questions are all answered yes

@@ -1,5 +1,5 @@
 -- What the bin and the values of a round say of those that were noted.
-use Rattle.std.proofs.Common.{◌≡◌, ℕ, Bool, true, false, cond, ◌&&◌, Some, None, Option, sym, refl, subst, arith}
+use Rattle.std.proofs.Common.{◌≡◌, ℕ, Bool, true, false, cond, ◌&&◌, Some, None, Option, refl, subst, arith}
 use Rattle.std.proofs.lemmas.Bool.{and_parts, both_ways, eqb-true}
 use Rattle.protocol.specs.declared.value.Value.{Value}
 use Rattle.protocol.specs.declared.value.Value.TheVariants.{Hold, Release}
@@ -10,7 +10,7 @@ use Rattle.protocol.specs.Facts.{Facts}
 use Rattle.protocol.specs.Values.{same_value, values_with, has}
 use Rattle.protocol.specs.Processes.{Process, any_aux}
 use Rattle.protocol.specs.Rounds.{in_bin, bin, single, double, values}
-use Rattle.protocol.proofs.Options.{none_some, some_same}
+use Rattle.protocol.proofs.Options.{some_same}
 
 -- values that test as the same are the same
 pub same_values : (v w : Value) → same_value v w ≡ true → v ≡ w
@@ -48,7 +48,7 @@ module _ (f : Facts) (x : Process) (r : ℕ) where
       go true l b eh el eb e = subst (Evidence f x r) (some_same (Only Hold) c e) (alone_by Hold eh)
       go false true b eh el eb e = subst (Evidence f x r) (some_same (Only Release) c e) (alone_by Release el)
       go false false true eh el eb e = subst (Evidence f x r) (some_same Both c e) (mixed_by eb)
-      go false false false eh el eb e = none_some c e
+      go false false false eh el eb e = absurd cc
 
   -- a round without values cannot close with one value, nor with both
   pub none_single : (v : Value) → values f x r ≡ None → single f x r v ≡ true → ⊥
@@ -57,10 +57,10 @@ module _ (f : Facts) (x : Process) (r : ℕ) where
     where
       go : (v : Value) (h l b : Bool) → single f x r Hold ≡ h → single f x r Release ≡ l → chosen h l b ≡ None
           → single f x r v ≡ true → ⊥
-      go Hold true l b eh el e k = none_some (Only Hold) (sym e)
+      go Hold true l b eh el e k = absurd cc
       go Hold false l b eh el e k = both_ways (single f x r Hold) eh k
-      go Release true l b eh el e k = none_some (Only Hold) (sym e)
-      go Release false true b eh el e k = none_some (Only Release) (sym e)
+      go Release true l b eh el e k = absurd cc
+      go Release false true b eh el e k = absurd cc
       go Release false false b eh el e k = both_ways (single f x r Release) el k
 
   pub none_double : values f x r ≡ None → double f x r ≡ true → ⊥
@@ -68,9 +68,9 @@ module _ (f : Facts) (x : Process) (r : ℕ) where
   none_double = go (single f x r Hold) (single f x r Release) (double f x r)
     where
       go : (h l b : Bool) → chosen h l b ≡ None → b ≡ true → ⊥
-      go true l b e k = none_some (Only Hold) (sym e)
-      go false true b e k = none_some (Only Release) (sym e)
-      go false false true e k = none_some Both (sym e)
+      go true l b e k = absurd cc
+      go false true b e k = absurd cc
+      go false false true e k = absurd cc
       go false false false e k = both_ways false refl k
 
   -- a value that is accepted makes a bin
@@ -99,9 +99,9 @@ module _ (f : Facts) (x : Process) (r : ℕ) where
       go Hold true l eh el q k = eh
       go Release h true eh el q k = el
       go Hold false true eh el q k = lacks (Only Release) Hold (some_same (Only Release) c q) refl k
-      go Hold false false eh el q k = none_some c q
+      go Hold false false eh el q k = absurd cc
       go Release true false eh el q k = lacks (Only Hold) Release (some_same (Only Hold) c q) refl k
-      go Release false false eh el q k = none_some c q
+      go Release false false eh el q k = absurd cc
 
   -- a round with values has a bin
   pub values_bin : (c : Values) → values f x r ≡ Some c → (b : Values) × (bin f x r ≡ Some b)

@@ -1,5 +1,5 @@
 -- Messages and their codes, each got back from the other.
-use Rattle.std.proofs.Common.{◌≡◌, ℕ, suc, ◌/◌, ◌%◌, ◌<◌, ◌≤◌, Bool, true, false, cond, eqb, Some, None, Option, sym, refl, ap, ◌∙◌, arith}
+use Rattle.std.proofs.Common.{◌≡◌, ℕ, suc, ◌/◌, ◌%◌, ◌<◌, ◌≤◌, Bool, true, false, cond, eqb, Some, None, sym, refl, ap, ◌∙◌, arith}
 use Rattle.std.proofs.lemmas.Bool.{eqb-true}
 use Rattle.protocol.specs.declared.value.Value.TheVariants.{Hold, Release}
 use Rattle.protocol.specs.declared.value.Values.TheVariants.{Only, Both}
@@ -62,9 +62,6 @@ payload_numbers k c p =
     kinds (eqb k 0) (eqb k 1) (eqb c 0) (eqb c 1) (eqb c 2) (eqb c 3) (eqb-true k 0) (eqb-true k 1) (eqb-true c 0) (eqb-true c 1)
     (eqb-true c 2) (eqb-true c 3)
   where
-    none_some : {A : Type 0} → ◌≡◌ {A = Option Payload} None (Some p) → A
-    none_some e = let z : ◌≡◌ {A = ℕ} 0 1 = cc in absurd (omega arith)
-
     is : (q : Payload) → k ≡ payload_kind q → c ≡ payload_content q → Some q ≡ Some p
         → (k ≡ payload_kind p) × (c ≡ payload_content p)
     is q ek ec e = let f : q ≡ p = cc in (ek ∙ ap payload_kind f, ec ∙ ap payload_content f)
@@ -79,12 +76,12 @@ payload_numbers k c p =
         → (k ≡ payload_kind p) × (c ≡ payload_content p)
     kinds true k1 true c1 c2 c3 ek ek' a b d f e = is (Est Hold) (ek refl) (a refl) e
     kinds true k1 false true c2 c3 ek ek' a b d f e = is (Est Release) (ek refl) (b refl) e
-    kinds true k1 false false c2 c3 ek ek' a b d f e = none_some e
+    kinds true k1 false false c2 c3 ek ek' a b d f e = absurd cc
     kinds false true c0 true c2 c3 ek ek' a b d f e = is (Aux (Only Hold)) (ek' refl) (b refl) e
     kinds false true c0 false true c3 ek ek' a b d f e = is (Aux (Only Release)) (ek' refl) (d refl) e
     kinds false true c0 false false true ek ek' a b d f e = is (Aux Both) (ek' refl) (f refl) e
-    kinds false true c0 false false false ek ek' a b d f e = none_some e
-    kinds false false c0 c1 c2 c3 ek ek' a b d f e = none_some e
+    kinds false true c0 false false false ek ek' a b d f e = absurd cc
+    kinds false false c0 c1 c2 c3 ek ek' a b d f e = absurd cc
 
 -- payloads with the same numbers are the same
 pub same_payload : (p q : Payload) → payload_kind p ≡ payload_kind q → payload_content p ≡ payload_content q → p ≡ q

@@ -14,7 +14,7 @@ use Rattle.protocol.specs.Processes.{Process}
 use Rattle.protocol.specs.Rounds.{bin, values, decides}
 use Rattle.protocol.specs.Steps.{echo_due, echo_from, est_rule, aux_sent, aux_rule, close_rule, own_rules, or_idle, outcome}
 use Rattle.protocol.proofs.Closing.{values_bin}
-use Rattle.protocol.proofs.Options.{none_some, some_same}
+use Rattle.protocol.proofs.Options.{some_same}
 
 module _ (f : Facts) (last : ℕ) (x : Process) where
   -- all echoes of round r are sent
@@ -54,7 +54,7 @@ module _ (f : Facts) (last : ℕ) (x : Process) where
   est_first o l k = go x.estimate refl
     where
       go : (e : Option Value) → x.estimate ≡ e → Due (or_idle (first_of (est_rule x e) o))
-      go None q = k (λ v p. none_some v (sym q ∙ p))
+      go None q = k (λ v p. absurd cc)
       go (Some v) q = at (x.sent x.round (payload.Est v)) refl
         where
           at : (b : Bool) → x.sent x.round (payload.Est v) ≡ b
@@ -69,7 +69,7 @@ module _ (f : Facts) (last : ℕ) (x : Process) where
   aux_first o l k = go (bin f x x.round) refl
     where
       go : (b : Option Values) → bin f x x.round ≡ b → Due (or_idle (first_of (aux_rule x b) o))
-      go None q = k (λ c p. none_some c (sym q ∙ p))
+      go None q = k (λ c p. absurd cc)
       go (Some c) q = at (aux_sent x x.round) refl
         where
           at : (b : Bool) → aux_sent x x.round ≡ b → Due (or_idle (first_of (cond b None (Some (Aux x.round c))) o))

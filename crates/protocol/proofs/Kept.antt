@@ -27,7 +27,6 @@ use Rattle.protocol.proofs.Contents.{any_which}
 use Rattle.protocol.proofs.Due.{Due, due_echo, due_est, due_aux, due_close, nothing_due, due}
 use Rattle.protocol.proofs.Invariant.{Closes, Entered, Round, Own, Between, Invariant}
 use Rattle.protocol.proofs.OneProcess.{Unmoved, MaySend, own_noted, own_same, own_sent, own_propose, own_close}
-use Rattle.protocol.proofs.Options.{none_some}
 use Rattle.protocol.proofs.Sayings.{marked_old, marked_new, marked_cases, heard_old, heard_new, heard_cases}
 use Rattle.protocol.proofs.Tables.{put_elim, put_field, more_old, more_cases}
 use Rattle.protocol.proofs.TwoProcesses.{writable_in, still, said_to_all, noted_one, dropped}
@@ -271,7 +270,8 @@ module _ (S : Setting) (F : Fair S) (h : List Event) (s : State) (I : Invariant 
       other i j ci cj q o Q f =
           let e : message_of c ≡ message i j q o =
           ap message_of f ∙ message_of_code (message i j q o) (writable_in S F.in_range i j q o ci.below cj.below Q) in
-          none_some o (sym none ∙ (ap (landing S) e ∙ lands S i j q o ci.below cj Q))
+          let some = ap (landing S) e ∙ lands S i j q o ci.below cj Q in
+          absurd cc
 
   deliver_kept :
       (n c : ℕ) (a : Answer) → 1 ≤ s.wire.copies c

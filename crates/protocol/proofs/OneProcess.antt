@@ -180,7 +180,7 @@ own_propose S F h i v x e O = record {
   where
     back : (r : ℕ) (c : Values) (d : Bool) → Closes (event (propose i (value_number v)) (Ok done) ∷ h) i r c d → Closes h i r c d
     back r c d (inl p) =
-        let q = ap (λ (t : Event). t.answer) p in let z : ◌≡◌ {A = ℕ} 0 1 = cc in absurd (omega arith)
+        let q = ap (λ (t : Event). t.answer) p in absurd cc
     back r c d (inr k) = k
 
 -- a round that decides closes with the value that it favours

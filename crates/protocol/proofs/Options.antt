@@ -1,9 +1,5 @@
 -- Things that may be absent.
-use Rattle.std.proofs.Common.{◌≡◌, ℕ, Some, None, Option, refl, arith}
-
--- nothing is not something
-pub none_some : {A B : Type 0} (x : A) → None ≡ Some x → B
-none_some x e = let z : ◌≡◌ {A = ℕ} 0 1 = cc in absurd (omega arith)
+use Rattle.std.proofs.Common.{◌≡◌, Some, None, Option, refl}
 
 pub some_same : {A : Type 0} (x y : A) → Some x ≡ Some y → x ≡ y
 some_same x y e = cc

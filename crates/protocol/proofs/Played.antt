@@ -21,7 +21,7 @@ use Rattle.protocol.proofs.Codes.{code_below}
 use Rattle.protocol.proofs.Copies.{waiting_same, free_sent}
 use Rattle.protocol.proofs.Due.{Due, due_echo, due_est, due_aux, due_close, nothing_due, due}
 use Rattle.protocol.proofs.Invariant.{Round}
-use Rattle.protocol.proofs.Options.{none_some, some_same}
+use Rattle.protocol.proofs.Options.{some_same}
 use Rattle.protocol.proofs.Theorem.{never_part}
 use Rattle.protocol.proofs.TwoProcesses.{writable_in}
 
@@ -37,8 +37,8 @@ says_round S x o r p l (due_est v m q) e =
     let f = same_round x.round r (payload.Est v) p e in record { first = omega arith; last = omega arith }
 says_round S x o r p l (due_aux c m q n) e =
     let f = same_round x.round r (payload.Aux c) p e in record { first = omega arith; last = omega arith }
-says_round S x o r p l (due_close c m s a v) e = none_some {A = ℕ × Payload} (r, p) e
-says_round S x o r p l (nothing_due _) e = none_some {A = ℕ × Payload} (r, p) e
+says_round S x o r p l (due_close c m s a v) e = absurd cc
+says_round S x o r p l (nothing_due _) e = absurd cc
 
 module _ {W : Type 0} (K : Wire W) (L : WireLaws K) where
   -- what waits by the meaning, of the codes that there are

@@ -36,10 +36,10 @@ decided_closes h i v t = (t.0, go t.1.0 t.1.1 t.1.2 t.1.3)
         let ed : ◌≡◌ {A = ℕ} (cond d 1 0) 1 = cc in
         subst (λ (u : ℕ). Closes h i u (Only v) true) er
         (subst (λ (u : Values). Closes h i r u true) (only_number c v ec) (subst (λ (u : Bool). Closes h i r c u) (one_true d ed) a))
-    go (Echo r c) a w n = let z : ◌≡◌ {A = ℕ} 0 1 = cc in absurd (omega arith)
-    go (Est r c) a w n = let z : ◌≡◌ {A = ℕ} 0 1 = cc in absurd (omega arith)
-    go (Aux r c) a w n = let z : ◌≡◌ {A = ℕ} 0 1 = cc in absurd (omega arith)
-    go Idle a w n = let z : ◌≡◌ {A = ℕ} 0 1 = cc in absurd (omega arith)
+    go (Echo r c) a w n = absurd cc
+    go (Est r c) a w n = absurd cc
+    go (Aux r c) a w n = absurd cc
+    go Idle a w n = absurd cc
 
 -- a closing is told as one
 pub closes_closed : (h : List Event) (i r : ℕ) (c : Values) (d : Bool) → Closes h i r c d → Closed h i r

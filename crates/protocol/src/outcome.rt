@@ -23,6 +23,7 @@ pub enum Outcome {
     Close {
         round: u8,
         values: Values,
+        /// a flag and no `Option`, since the values say already what was decided
         decided: bool,
     },
     /// nothing was due

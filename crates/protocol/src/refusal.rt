@@ -17,6 +17,7 @@ pub enum Layer {
 /// What a call answers that is refused. It is carried up unchanged.
 #[derive(Clone, Copy, PartialEq, Eq, Debug)]
 pub struct Refusal {
+    /// a number and no enum, since the rules number the questions, and this is what is printed
     pub number: u8,
     pub layer: Layer,
 }
@@ -25,13 +26,13 @@ impl fmt::Display for Layer {
     ghost output = { λ x. Some (layer_text x) };
 
     fn fmt<W: fmt::Write>(&self, f: &mut fmt::Formatter<W>) -> fmt::Result {
-        match self {
-            Layer::Wire => f.write_str("wire"),
-            Layer::Franchise => f.write_str("franchise"),
-            Layer::Roll => f.write_str("roll"),
-            Layer::Run => f.write_str("run"),
-            Layer::Sheet => f.write_str("sheet"),
-        }
+        f.write_str(match self {
+            Layer::Wire => "wire",
+            Layer::Franchise => "franchise",
+            Layer::Roll => "roll",
+            Layer::Run => "run",
+            Layer::Sheet => "sheet",
+        })
     }
 }
 
@@ -39,8 +40,7 @@ impl fmt::Display for Refusal {
     ghost output = { λ x. Some (refusal_text x) };
 
     fn fmt<W: fmt::Write>(&self, f: &mut fmt::Formatter<W>) -> fmt::Result {
-        let number = self.number;
-        let layer = self.layer;
+        let Refusal { number, layer } = self;
         write!(f, "{number} {layer}")
     }
 }
