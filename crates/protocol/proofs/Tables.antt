@@ -1,7 +1,7 @@
 -- Tables with one entry changed, and copies that come and go.
-use Rattle.std.proofs.Common.{◌≡◌, ℕ, zero, suc, ◌-◌, ◌<◌, ◌≤◌, Bool, true, false, cond, eqb, ◌≢◌, ◌⊎◌, sym, refl, ap, ◌∙◌, subst, inl, inr, arith}
+use Rattle.std.proofs.Common.{◌≡◌, ℕ, zero, suc, ◌-◌, ◌<◌, ◌≤◌, eqb, ◌≢◌, ◌⊎◌, refl, ap, ◌∙◌, subst, inl, inr, arith}
 use native.Mathlib.Decide.{ℕ_discrete}
-use Rattle.std.proofs.lemmas.Bool.{eqb-true, eqb-false, eq-eqb}
+use Rattle.std.proofs.lemmas.Bool.{eqb-true, eqb-false, eq-eqb, cond_both}
 use Rattle.protocol.specs.declared.payload.Payload.{Payload}
 use Rattle.protocol.specs.Messages.{code, message}
 use Rattle.protocol.specs.Wires.{Pool, pool, one_more, one_less}
@@ -12,11 +12,7 @@ use Rattle.protocol.specs.Play.{put, sent_to}
 pub put_elim :
     {A : Type 0} (P : A → Type 0) (i j : ℕ) (a : A) (g : ℕ → A) → (i ≡ j → P a) → (i ≢ j → P (g j)) → P (put i a g j)
 unfolding put
-put_elim {A} P i j a g p q = go (eqb i j) refl
-  where
-    go : (b : Bool) → eqb i j ≡ b → P (cond b a (g j))
-    go true e = p (eqb-true i j e)
-    go false e = q (eqb-false i j e)
+put_elim P i j a g p q = cond_both (eqb i j) a (g j) P (λ e. p (eqb-true i j e)) (λ e. q (eqb-false i j e))
 
 -- a field that the new entry keeps is kept everywhere
 pub put_field :
@@ -26,39 +22,24 @@ put_field φ i j a g e =
 
 pub more_old : (x : ℕ) (g : ℕ → ℕ) (y : ℕ) → 1 ≤ g y → 1 ≤ one_more x g y
 unfolding one_more
-more_old x g y l = go (eqb x y)
-  where
-    go : (b : Bool) → 1 ≤ cond b (suc (g y)) (g y)
-    go true = omega arith
-    go false = l
+more_old x g y l = cond_both (eqb x y) (suc (g y)) (g y) (λ n. 1 ≤ n) (λ _. omega arith) (λ _. l)
 
 pub more_new : (x : ℕ) (g : ℕ → ℕ) → 1 ≤ one_more x g x
 unfolding one_more
-more_new x g = subst (λ (b : Bool). 1 ≤ cond b (suc (g x)) (g x)) (sym (eq-eqb x x refl)) (omega arith)
+more_new x g = rw (eq-eqb x x refl) (omega arith)
 
 pub more_cases : (x : ℕ) (g : ℕ → ℕ) (y : ℕ) → 1 ≤ one_more x g y → (1 ≤ g y) ⊎ (x ≡ y)
 unfolding one_more
-more_cases x g y = go (eqb x y) refl
-  where
-    go : (b : Bool) → eqb x y ≡ b → 1 ≤ cond b (suc (g y)) (g y) → (1 ≤ g y) ⊎ (x ≡ y)
-    go true e l = inr (eqb-true x y e)
-    go false e l = inl l
+more_cases x g y =
+    cond_both (eqb x y) (suc (g y)) (g y) (λ n. 1 ≤ n → (1 ≤ g y) ⊎ (x ≡ y)) (λ e l. inr (eqb-true x y e)) (λ e l. inl l)
 
 pub less_old : (x : ℕ) (g : ℕ → ℕ) (y : ℕ) → 1 ≤ one_less x g y → 1 ≤ g y
 unfolding one_less
-less_old x g y = go (eqb x y)
-  where
-    go : (b : Bool) → 1 ≤ cond b (g y - 1) (g y) → 1 ≤ g y
-    go true l = omega arith
-    go false l = l
+less_old x g y = cond_both (eqb x y) (g y - 1) (g y) (λ n. 1 ≤ n → 1 ≤ g y) (λ _ l. omega arith) (λ _ l. l)
 
 pub less_cases : (x : ℕ) (g : ℕ → ℕ) (y : ℕ) → 1 ≤ g y → (1 ≤ one_less x g y) ⊎ (x ≡ y)
 unfolding one_less
-less_cases x g y l = go (eqb x y) refl
-  where
-    go : (b : Bool) → eqb x y ≡ b → (1 ≤ cond b (g y - 1) (g y)) ⊎ (x ≡ y)
-    go true e = inr (eqb-true x y e)
-    go false e = inl l
+less_cases x g y l = cond_both (eqb x y) (g y - 1) (g y) (λ n. (1 ≤ n) ⊎ (x ≡ y)) (λ e. inr (eqb-true x y e)) (λ e. inl l)
 
 -- after process i said p for round r to the processes below d
 module _ (x : ℕ) (S : Setting) (i r : ℕ) (p : Payload) (w : Pool) where
