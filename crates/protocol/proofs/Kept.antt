@@ -1,6 +1,6 @@
 -- Every call keeps the invariant: one lemma for each.
-use Rattle.std.proofs.Common.{◌≡◌, ℕ, zero, suc, ◌<◌, ◌≤◌, Bool, true, false, cond, ◌≢◌, ◌⊎◌, List, ◌∷◌, Some, None, Ok, Err, Option, sym, refl, ap, ◌∙◌, subst, inl, inr, arith}
-use Rattle.std.proofs.lemmas.Bool.{both_ways}
+use Rattle.std.proofs.Common.{◌≡◌, ℕ, zero, suc, ◌<◌, ◌≤◌, Bool, true, false, ◌≢◌, ◌⊎◌, List, ◌∷◌, Some, None, Ok, Err, Option, sym, refl, ap, ◌∙◌, subst, inl, inr, arith}
+use Rattle.std.proofs.lemmas.Bool.{both_ways, cond_both}
 use Rattle.protocol.specs.declared.refusal.Refusal.{Refusal}
 use Rattle.protocol.specs.declared.value.Value.{Value}
 use Rattle.protocol.specs.declared.value.Values.{Values}
@@ -222,20 +222,16 @@ module _ (S : Setting) (F : Fair S) (h : List Event) (s : State) (I : Invariant 
   }
     where
       old : (q : ℕ) (o : Payload) (t : ℕ) → (s.processes d).noted q o t ≡ true → (noting k r p (s.processes d)).noted q o t ≡ true
-      old q o t e = go (known k r p (s.processes d))
-        where
-          go : (b : Bool) → cond b (s.processes d).noted (heard r p k (s.processes d).noted) q o t ≡ true
-          go true = e
-          go false = heard_old r p k (s.processes d).noted q o t e
+      old q o t e =
+          cond_both (known k r p (s.processes d)) (s.processes d).noted (heard r p k (s.processes d).noted) (λ g. g q o t ≡ true)
+          (λ _. e) (λ _. heard_old r p k (s.processes d).noted q o t e)
 
       new : (q : ℕ) (o : Payload) (t : ℕ) → (noting k r p (s.processes d)).noted q o t ≡ true
           → ((s.processes d).noted q o t ≡ true) ⊎ ((r ≡ q) × (p ≡ o) × (k ≡ t))
-      new q o t = go (known k r p (s.processes d))
-        where
-          go : (b : Bool) → cond b (s.processes d).noted (heard r p k (s.processes d).noted) q o t ≡ true
-              → ((s.processes d).noted q o t ≡ true) ⊎ ((r ≡ q) × (p ≡ o) × (k ≡ t))
-          go true e = inl e
-          go false e = heard_cases r p k (s.processes d).noted q o t e
+      new q o t =
+          cond_both (known k r p (s.processes d)) (s.processes d).noted (heard r p k (s.processes d).noted)
+          (λ g. g q o t ≡ true → ((s.processes d).noted q o t ≡ true) ⊎ ((r ≡ q) × (p ≡ o) × (k ≡ t)))
+          (λ _. inl) (λ _. heard_cases r p k (s.processes d).noted q o t)
 
       -- a correct sender that is known said just this
       said : (o : Payload) → 1 ≤ s.wire.copies (code (message k d r o)) → Correct S k → known k r o (s.processes d) ≡ true
@@ -248,11 +244,9 @@ module _ (S : Setting) (F : Fair S) (h : List Event) (s : State) (I : Invariant 
           subst (λ (u : Values). (s.processes d).noted r (payload.Aux u) k ≡ true) q t.1
 
       at : Correct S k → (noting k r p (s.processes d)).noted r p k ≡ true
-      at ck = go (known k r p (s.processes d)) refl
-        where
-          go : (b : Bool) → known k r p (s.processes d) ≡ b → cond b (s.processes d).noted (heard r p k (s.processes d).noted) r p k ≡ true
-          go true e = said p w ck e
-          go false e = heard_new r p k (s.processes d).noted
+      at ck =
+          cond_both (known k r p (s.processes d)) (s.processes d).noted (heard r p k (s.processes d).noted) (λ g. g r p k ≡ true)
+          (said p w ck) (λ _. heard_new r p k (s.processes d).noted)
 
   -- a message that does not land is dropped
   drop_kept :

@@ -1,6 +1,6 @@
 -- A play over any kind of wire that keeps its laws is a history.
-use Rattle.std.proofs.Common.{◌≡◌, ℕ, zero, suc, ◌-◌, ◌<◌, ◌≤◌, Bool, true, false, cond, eqb, ltb, List, [], ◌∷◌, Some, None, Option, sym, refl, ap, ◌∙◌, subst, arith}
-use Rattle.std.proofs.lemmas.Bool.{lt-ltb, ltb-true, ltb-false, cond-true, cond-false, ne_eqb}
+use Rattle.std.proofs.Common.{◌≡◌, ℕ, zero, suc, ◌-◌, ◌<◌, ◌≤◌, cond, eqb, ltb, List, [], ◌∷◌, Some, None, Option, sym, refl, ap, ◌∙◌, subst, arith}
+use Rattle.std.proofs.lemmas.Bool.{lt-ltb, ltb-true, ltb-false, cond-true, cond-false, ne_eqb, cond_both, le-ltb}
 use Rattle.protocol.specs.declared.refusal.Refusal.{Refusal}
 use Rattle.protocol.specs.declared.payload.Payload.{Payload}
 use Rattle.protocol.specs.declared.payload.Payload.TheVariants as payload
@@ -52,18 +52,11 @@ module _ {W : Type 0} (K : Wire W) (L : WireLaws K) where
   clipped :
       (f : ℕ → ℕ) (g : ℕ → ℕ) (y : ℕ) → ((z : ℕ) → z < 32768 → f z ≡ g z) → ((z : ℕ) → 32768 ≤ z → g z ≡ 0)
       → cond (ltb y 32768) (f y) 0 ≡ g y
-  clipped f g y low high = go (ltb y 32768) refl
-    where
-      go : (b : Bool) → ltb y 32768 ≡ b → cond b (f y) 0 ≡ g y
-      go true e = low y (ltb-true y 32768 e)
-      go false e = sym (high y (ltb-false y 32768 e))
+  clipped f g y low high =
+      cond_both (ltb y 32768) (f y) 0 (λ n. n ≡ g y) (λ e. low y (ltb-true y 32768 e)) (λ e. sym (high y (ltb-false y 32768 e)))
 
   pooled_high : (w : W) (y : ℕ) → 32768 ≤ y → (pooled K w).copies y ≡ 0
-  pooled_high w y l = cond-false (ltb y 32768) (K.copies w y) 0 (high (ltb y 32768) refl)
-    where
-      high : (b : Bool) → ltb y 32768 ≡ b → b ≡ false
-      high true e = let m = ltb-true y 32768 e in absurd (omega arith)
-      high false e = refl
+  pooled_high w y l = cond-false (ltb y 32768) (K.copies w y) 0 (le-ltb y 32768 l)
 
   -- one copy more or less, of a code that there is
   more_same : (x : ℕ) (f g : ℕ → ℕ) (y : ℕ) → f y ≡ g y → one_more x f y ≡ one_more x g y
@@ -81,11 +74,9 @@ module _ {W : Type 0} (K : Wire W) (L : WireLaws K) where
 
   less_high : (x : ℕ) (w : W) → (y : ℕ) → 32768 ≤ y → one_less x (pooled K w).copies y ≡ 0
   unfolding one_less
-  less_high x w y m = go (eqb x y)
-    where
-      go : (b : Bool) → cond b ((pooled K w).copies y - 1) ((pooled K w).copies y) ≡ 0
-      go true = let e = pooled_high w y m in omega arith
-      go false = pooled_high w y m
+  less_high x w y m =
+      let e = pooled_high w y m in
+      cond_both (eqb x y) ((pooled K w).copies y - 1) ((pooled K w).copies y) (λ n. n ≡ 0) (λ _. omega arith) (λ _. e)
 
   -- a send and a take, by the meaning
   pooled_send : (x c : ℕ) (w : W) → c < 32768 → 1 ≤ free K w → pooled K (K.send c w) ≡ (pool x).send c (pooled K w)

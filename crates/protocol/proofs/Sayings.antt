@@ -1,6 +1,6 @@
 -- What is marked as sent, and who is noted, after one more.
-use Rattle.std.proofs.Common.{◌≡◌, ℕ, Bool, true, false, cond, ◌&&◌, eqb, ◌⊎◌, sym, refl, subst, inl, inr}
-use Rattle.std.proofs.lemmas.Bool.{eqb-true, eq-eqb, and_parts, and_from, or_cases, or_left, or_right}
+use Rattle.std.proofs.Common.{◌≡◌, ℕ, Bool, true, cond, ◌&&◌, eqb, ◌⊎◌, sym, refl, subst, inl, inr}
+use Rattle.std.proofs.lemmas.Bool.{eqb-true, eq-eqb, and_parts, and_from, or_cases, or_left, or_right, cond_both}
 use Rattle.protocol.specs.declared.payload.Payload.{Payload}
 use Rattle.protocol.specs.Sets.{Set, joined}
 use Rattle.protocol.specs.Messages.{payload_kind, payload_content}
@@ -38,11 +38,8 @@ module _ (r : ℕ) (p : Payload) (g : ℕ → Payload → Bool) where
 module _ (r : ℕ) (p : Payload) (s : ℕ) (g : ℕ → Payload → Set) where
   pub heard_old : (q : ℕ) (o : Payload) (t : ℕ) → g q o t ≡ true → heard r p s g q o t ≡ true
   unfolding heard
-  heard_old q o t e = go (same_saying r p q o)
-    where
-      go : (b : Bool) → cond b (joined (g q o) s) (g q o) t ≡ true
-      go true = or_right (eqb s t) (g q o t) e
-      go false = e
+  heard_old q o t e =
+      cond_both (same_saying r p q o) (joined (g q o) s) (g q o) (λ m. m t ≡ true) (λ _. or_right (eqb s t) (g q o t) e) (λ _. e)
 
   pub heard_new : heard r p s g r p s ≡ true
   unfolding heard
@@ -53,13 +50,11 @@ module _ (r : ℕ) (p : Payload) (s : ℕ) (g : ℕ → Payload → Set) where
   pub heard_cases :
       (q : ℕ) (o : Payload) (t : ℕ) → heard r p s g q o t ≡ true → (g q o t ≡ true) ⊎ ((r ≡ q) × (p ≡ o) × (s ≡ t))
   unfolding heard
-  heard_cases q o t = go (same_saying r p q o) refl
+  heard_cases q o t =
+      cond_both (same_saying r p q o) (joined (g q o) s) (g q o)
+      (λ m. m t ≡ true → (g q o t ≡ true) ⊎ ((r ≡ q) × (p ≡ o) × (s ≡ t)))
+      (λ e k. join (same_parts r p q o e) (or_cases (eqb s t) (g q o t) k)) (λ _. inl)
     where
       join : (r ≡ q) × (p ≡ o) → (eqb s t ≡ true) ⊎ (g q o t ≡ true) → (g q o t ≡ true) ⊎ ((r ≡ q) × (p ≡ o) × (s ≡ t))
       join u (inl k) = inr (u.0, u.1, eqb-true s t k)
       join u (inr k) = inl k
-
-      go : (b : Bool) → same_saying r p q o ≡ b → cond b (joined (g q o) s) (g q o) t ≡ true
-          → (g q o t ≡ true) ⊎ ((r ≡ q) × (p ≡ o) × (s ≡ t))
-      go true e k = join (same_parts r p q o e) (or_cases (eqb s t) (g q o t) k)
-      go false e k = inl k
