@@ -8,7 +8,6 @@ use Rattle.wire.specs.CountWires.{count_in}
 use Rattle.protocol.specs.Options.{first_of}
 use Rattle.protocol.specs.Wires.{waiting}
 use Rattle.protocol.proofs.Copies.{waiting_some}
-use Rattle.protocol.proofs.Options.{none_some}
 use Rattle.wire.specs.PlainWires.{smallest, chosen, or_zero, plain_counts}
 use Rattle.wire.specs.Smallest.{SmallestFrom, NoneFrom, TakesSmallest}
 
@@ -37,7 +36,7 @@ module _ (g : ℕ → ℕ) where
   -- what is found is the smallest of those that wait
   found : (n x y : ℕ) → x + n ≤ 32768 → smallest g n x ≡ Some y → SmallestFrom g x y
   unfolding smallest
-  found zero x y l e = none_some y e
+  found zero x y l e = absurd cc
   found (suc n) x y l e = elim (dec_le 1 (g x)) [
     | yes w ↦
         let same : x ≡ y = grind arith in
@@ -92,7 +91,7 @@ module _ (g : ℕ → ℕ) where
   chosen_none k = go (smallest g (32768 - k % 32768) (k % 32768))
     where
       go : (o : Option ℕ) → first_of o (smallest g 32768 0) ≡ None → waiting g < 1
-      go (Some y) f = none_some y (sym f)
+      go (Some y) f = absurd cc
       go None f = elim (dec_le 1 (waiting g)) [
         | yes l ↦
             let t = waiting_some g 32768 l in
