@@ -4,7 +4,7 @@ ghost use Rattle.roll.specs.Refused.{refusal_of};
 
 use protocol::refusal::{Layer, Refusal};
 
-#[derive(Clone, Copy)]
+#[derive(Clone, Copy, Debug, PartialEq, Eq)]
 pub enum RollFault {
     /// a process is not below the number of processes
     Process,
@@ -14,12 +14,12 @@ pub enum RollFault {
     Rounds,
 }
 
-impl RollFault {
-    /// Its number and the layer where it arose.
-    pub fn refusal(self) -> Refusal
-        ensures { result ≡ refusal_of self }
-    {
-        let number = match self {
+/// The number of the fault, and the layer where it arose.
+impl From<RollFault> for Refusal {
+    ghost from_gives = { λ f r. r ≡ refusal_of f };
+
+    fn from(fault: RollFault) -> Refusal {
+        let number = match fault {
             RollFault::Process => 2,
             RollFault::Size => 11,
             RollFault::Rounds => 12,

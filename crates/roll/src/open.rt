@@ -3,34 +3,36 @@ ghost use Rattle.std.specs.Prelude.{◌≡◌};
 ghost use Rattle.protocol.specs.Refusals.{answer, leaves, told};
 ghost use Rattle.protocol.specs.Sets.{bits, joined};
 ghost use Rattle.roll.specs.Refused.{open_questions, name_questions, refusal_of};
-ghost use Rattle.roll.specs.Views.{opened, named, of_open, of_sealed};
+ghost use Rattle.roll.specs.Views.{opened, named};
 
 use super::fault::RollFault;
-use super::rolls::{OpenRoll, SealedRoll};
+use super::rolls::{OpenRoll, Roll, SealedRoll};
+use std::marker::PhantomData;
 
 impl OpenRoll {
     /// A roll on which no process is named.
     pub fn open(size: u8, rounds: u8) -> Result<OpenRoll, RollFault>
-        ensures { told of_open refusal_of result ≡ answer (open_questions size rounds) (opened size rounds) }
+        ensures { told (λ x. x) refusal_of result ≡ answer (open_questions size rounds) (opened size rounds) }
     {
-        if size < 1 || size > 16 {
+        if !(1..=16).contains(&size) {
             return Err(RollFault::Size);
         }
-        if rounds < 1 || rounds > 16 {
+        if !(1..=16).contains(&rounds) {
             return Err(RollFault::Rounds);
         }
-        Ok(OpenRoll {
+        Ok(Roll {
             size,
             rounds,
             faulty: 0,
+            state: PhantomData,
         })
     }
 
     /// Names a process as faulty. Naming one twice is accepted.
     pub fn name(&mut self, process: u8) -> Result<(), RollFault>
-        ensures answer { told (λ x. x) refusal_of result ≡ answer (name_questions (of_open self.old) process) tt }
-        ensures after { of_open self.new ≡ leaves (name_questions (of_open self.old) process) (of_open self.old) (named (of_open self.old) process) }
-        ensures members { bits self.new.faulty ≡ leaves (name_questions (of_open self.old) process) (bits self.old.faulty) (joined (bits self.old.faulty) process) }
+        ensures answer { told (λ x. x) refusal_of result ≡ answer (name_questions self.old process) tt }
+        ensures after { self.new ≡ leaves (name_questions self.old process) self.old (named self.old process) }
+        ensures members { bits self.new.faulty ≡ leaves (name_questions self.old process) (bits self.old.faulty) (joined (bits self.old.faulty) process) }
     {
         if process >= self.size {
             return Err(RollFault::Process);
@@ -41,17 +43,19 @@ impl OpenRoll {
 
     /// No process can be named any more.
     pub fn seal(self) -> SealedRoll
-        ensures { of_sealed result ≡ of_open self }
+        ensures { result ≡ self }
     {
-        let OpenRoll {
+        let Roll {
             size,
             rounds,
             faulty,
+            state: PhantomData,
         } = self;
-        SealedRoll {
+        Roll {
             size,
             rounds,
             faulty,
+            state: PhantomData,
         }
     }
 }

@@ -1,19 +1,33 @@
-//! The two states of a roll. Neither can be copied or let go: an open one is sealed, and a sealed one is spent.
-ghost use Rattle.std.specs.Prelude.{◌≤◌};
+//! The two states of a roll. In neither can it be copied or let go: an open one is sealed, and a sealed one is spent.
+use std::marker::{Model, PhantomData};
 
-/// A roll on which faulty processes are named.
-pub struct OpenRoll {
+/// Faulty processes are being named.
+pub struct Open;
+
+/// No process can be named any more, and one run is begun.
+pub struct Sealed;
+
+pub struct Roll<State> {
     pub(crate) size: u8,
     pub(crate) rounds: u8,
     /// the faulty processes: process i has the bit of weight 2 to the power i
     pub(crate) faulty: u16,
-    ghost ranges: { (1 ≤ size) × (size ≤ 16) × (1 ≤ rounds) × (rounds ≤ 16) },
+    pub(crate) state: PhantomData<State>,
 }
 
+/// A roll on which faulty processes are named.
+pub type OpenRoll = Roll<Open>;
+
 /// A roll from which one run is begun.
-pub struct SealedRoll {
-    pub(crate) size: u8,
-    pub(crate) rounds: u8,
-    pub(crate) faulty: u16,
-    ghost ranges: { (1 ≤ size) × (size ≤ 16) × (1 ≤ rounds) × (rounds ≤ 16) },
+pub type SealedRoll = Roll<Sealed>;
+
+impl<State> Model for Roll<State> {
+    ghost use Rattle.std.specs.Prelude.{◌≤◌};
+    ghost use Rattle.roll.specs.Views.{Terms};
+
+    ghost Value = { Terms };
+
+    ghost view = { λ r. record { size = r.size; rounds = r.rounds; faulty = r.faulty } };
+
+    ghost invariant = { λ r. (1 ≤ r.size) × (r.size ≤ 16) × (1 ≤ r.rounds) × (r.rounds ≤ 16) };
 }
