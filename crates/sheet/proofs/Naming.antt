@@ -1,5 +1,5 @@
 -- Naming the faulty processes of a header one after another.
-use Rattle.std.proofs.Common.{◌≡◌, ℕ, zero, suc, ◌+◌, ◌*◌, ◌/◌, ◌%◌, ◌^◌, ◌<◌, true, false, not, ◌||◌, ltb, Ok, Err, sym, refl, ap, ◌∙◌, inl, inr, mod-lt, mod-eq_of_lt, one-mul, add-one, arith, pow_pos}
+use Rattle.std.proofs.Common.{◌≡◌, ℕ, zero, suc, ◌+◌, ◌*◌, ◌/◌, ◌%◌, ◌^◌, ◌<◌, true, false, not, ◌||◌, ltb, Ok, Err, sym, refl, ap, ◌∙◌, inl, inr, mod-lt, one-mul, add-one, arith, pow_pos}
 use native.Mathlib.Nat.{mod-one}
 use lib.Bits.{bit_or, or_shifted_r}
 use lib.Pow.{mod-pow-add}
@@ -9,7 +9,7 @@ use Rattle.protocol.specs.Refusals.{answer, leaves}
 use Rattle.protocol.specs.Sets.{Set, bits}
 use Rattle.protocol.proofs.Asking.{granted_none, refused_some, asked_yes, asked_no}
 use Rattle.roll.specs.Refused.{name_questions}
-use Rattle.roll.specs.Views.{Roll, named}
+use Rattle.roll.specs.Views.{Terms, named}
 use Rattle.sheet.specs.Headers.{all_named, members_below, naming_questions}
 
 -- the bits below i + 1 are those below i and the bit i
@@ -46,18 +46,12 @@ module _ (n : ℕ) (s : Set) where
 
 -- on a roll that names none, no process below 0 is named
 pub none_named :
-    (r : Roll) (f : ℕ) → r.faulty ≡ 0 → (r ≡ all_named r (f % 2 ^ 0)) × (members_below r.size (bits f) 0 ≡ true)
+    (r : Terms) (f : ℕ) → r.faulty ≡ 0 → (r ≡ all_named r (f % 2 ^ 0)) × (members_below r.size (bits f) 0 ≡ true)
 unfolding members_below
 none_named r f e = (ap (all_named r) (e ∙ sym (mod-one f)), refl)
 
--- when all are named, the roll has the processes of f, and they are all below its size
-pub all_below :
-    (r : Roll) (f : ℕ) (now : Roll) → f < 2 ^ 16 → now ≡ all_named r (f % 2 ^ 16) → members_below r.size (bits f) 16 ≡ true
-    → (Ok (tt {0}) ≡ answer (naming_questions r.size f) (tt {0})) × (now ≡ all_named r f)
-all_below r f now small same below = (rw below, same ∙ ap (all_named r) (mod-eq_of_lt small))
-
 -- on a roll that names none at first, the processes below i are named
-module _ (r : Roll) (f i : ℕ) (now : Roll) (same : now ≡ all_named r (f % 2 ^ i)) (below : members_below r.size (bits f) i ≡ true) where
+module _ (r : Terms) (f i : ℕ) (now : Terms) (same : now ≡ all_named r (f % 2 ^ i)) (below : members_below r.size (bits f) i ≡ true) where
   size_is : now.size ≡ r.size
   size_is = ap (λ x. x.size) same
 
@@ -69,7 +63,7 @@ module _ (r : Roll) (f i : ℕ) (now : Roll) (same : now ≡ all_named r (f % 2 
   )
 
   pub named_more :
-      bits f i ≡ true → (next : Roll) → Ok (tt {0}) ≡ answer (name_questions now i) (tt {0})
+      bits f i ≡ true → (next : Terms) → Ok (tt {0}) ≡ answer (name_questions now i) (tt {0})
       → next ≡ leaves (name_questions now i) now (named now i)
       → (next ≡ all_named r (f % 2 ^ (i + 1))) × (members_below r.size (bits f) (i + 1) ≡ true)
   named_more e next a left =

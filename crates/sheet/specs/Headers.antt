@@ -1,38 +1,42 @@
 -- The header of a sheet, and what is asked of it.
-use Rattle.std.specs.Prelude.{ℕ, zero, suc, Bool, true, cond, not, ◌&&◌, ◌||◌, List, [], ◌∷◌, ◌++◌, take, Some, Option, nat_le, nat_lt}
+use Rattle.std.specs.Prelude.{ℕ, zero, suc, ◌+◌, Bool, true, cond, not, ◌&&◌, ◌||◌, ◌==◌, List, [], ◌∷◌, ◌++◌, take, Some, None, is_some, Option, nat_lt}
 use Rattle.protocol.specs.declared.refusal.Layer.TheVariants as layer
 use Rattle.protocol.specs.Refusals.{Question, ask}
 use Rattle.protocol.specs.Sets.{Set, bits}
 use Rattle.franchise.specs.Polls.{Poll, heads, votes, facts_of}
 use Rattle.franchise.specs.Refused.{heads_vote_questions, listed_vote_questions}
 use Rattle.roll.specs.Refused.{open_questions}
-use Rattle.roll.specs.Views.{Roll}
+use Rattle.roll.specs.Views.{Terms}
 use Rattle.sheet.specs.declared.header.Ballot.{Ballot}
 use Rattle.sheet.specs.declared.header.Ballot.TheVariants as ballot
 use Rattle.sheet.specs.declared.header.Header.{Header}
+use Rattle.sheet.specs.declared.header.WireKind.{WireKind}
+use Rattle.sheet.specs.declared.header.WireKind.TheVariants.{Bag, Counts}
 use Rattle.sheet.specs.Bytes.{byte, word, words}
 use Rattle.sheet.specs.declared.kind.Kind.{Kind}
 use Rattle.sheet.specs.Kinds.{is, kind_of}
 
+-- the kind of wire that a byte names
+abbrev pub wire_kind : ℕ → Option WireKind
+wire_kind b = cond (b == 0) (Some Bag) (cond (b == 1) (Some Counts) None)
+
+-- what a header says with the ballot b, where its other fields stand from the offset k on
+abbrev pub header_with : List ℕ → Ballot → ℕ → Header
+header_with bs b k = record {
+  size = byte bs 1;
+  rounds = byte bs k;
+  faulty = word bs (k + 1);
+  wire = wire_kind (byte bs (k + 3));
+  ballot = b;
+}
+
 -- what a header `H` says
 abbrev pub heads_header : List ℕ → Header
-heads_header bs = record {
-  size = byte bs 1;
-  rounds = byte bs 3;
-  faulty = word bs 4;
-  wire = byte bs 6;
-  ballot = ballot.Heads (byte bs 2);
-}
+heads_header bs = header_with bs (ballot.Heads (byte bs 2)) 3
 
 -- what a header `W` says
 abbrev pub votes_header : List ℕ → Header
-votes_header bs = record {
-  size = byte bs 1;
-  rounds = byte bs 4;
-  faulty = word bs 5;
-  wire = byte bs 7;
-  ballot = ballot.Votes (word bs 2) (words bs 8 16);
-}
+votes_header bs = header_with bs (ballot.Votes (word bs 2) (words bs 8 16)) 4
 
 -- what the first entry says, if it is a header
 abbrev pub header_at : List ℕ → Header
@@ -76,12 +80,12 @@ franchise_questions n b s = ballot_questions n b ++ (ask 16 layer.Run ((facts_of
 -- refusals 25; 11, 12, 2; 13, 14, 16: the kind of wire, the roll, and the franchise, in which the faulty are tolerable
 abbrev pub header_questions : Header → List Question
 header_questions h =
-    ask 25 layer.Sheet (nat_le h.wire 1) ∷ roll_questions h ++ franchise_questions h.size h.ballot (bits h.faulty)
+    ask 25 layer.Sheet (is_some h.wire) ∷ roll_questions h ++ franchise_questions h.size h.ballot (bits h.faulty)
 
 -- the roll that a header asks for
-abbrev pub roll_at : Header → Roll
+abbrev pub roll_at : Header → Terms
 roll_at h = record { size = h.size; rounds = h.rounds; faulty = h.faulty }
 
 -- a roll with other faulty processes
-abbrev pub all_named : Roll → ℕ → Roll
+abbrev pub all_named : Terms → ℕ → Terms
 all_named r faulty = record { size = r.size; rounds = r.rounds; faulty = faulty }

@@ -1,5 +1,5 @@
 -- The kinds of entries, their letters, and how long their bodies are.
-use Rattle.std.specs.Prelude.{ℕ, Bool, true, false, cond, Some, None, codes, Option, ◌==◌, slice_index}
+use Rattle.std.specs.Prelude.{ℕ, Bool, true, false, cond, Some, None, codes, Option, List, ◌==◌, slice_index}
 use Prim.Native.String.{String}
 use Rattle.sheet.specs.declared.kind.Kind.{Kind}
 use Rattle.sheet.specs.declared.kind.Kind.TheVariants.{Heads, Votes, Propose, Step, Plant, Deliver, Standing}
@@ -18,6 +18,16 @@ kind_of k =
     (cond (is "F" k) (Some Plant)
     (cond (is "D" k) (Some Deliver)
     (cond (is "Q" k) (Some Standing) None))))))
+
+-- the letter of a kind, as it is printed
+abbrev pub letter_text : Kind → List ℕ
+letter_text Heads = codes "H"
+letter_text Votes = codes "W"
+letter_text Propose = codes "P"
+letter_text Step = codes "S"
+letter_text Plant = codes "F"
+letter_text Deliver = codes "D"
+letter_text Standing = codes "Q"
 
 -- how many bytes follow the letter
 abbrev pub body_length : Kind → ℕ

@@ -1,61 +1,69 @@
 //! Reading an entry: its bytes, its kind, and whether it is whole.
-ghost use Rattle.std.specs.Prelude.{◌≡◌, ◌^◌, ◌<◌, Some};
+ghost use Rattle.std.specs.Prelude.{◌≡◌, ◌+◌, ◌^◌, ◌<◌, Some};
 ghost use Rattle.sheet.specs.Bytes.{byte, word};
 ghost use Rattle.sheet.specs.Faults.{refusal_of};
 ghost use Rattle.sheet.specs.Kinds.{kind_of};
-ghost use Rattle.sheet.specs.Entries.{entry_questions, begins_sheet, whole};
+ghost use Rattle.sheet.specs.Entries.{entry_questions, whole};
 ghost use Rattle.protocol.specs.Refusals.{answer, told};
 
 use super::fault::SheetFault;
 use super::kind::Kind;
 
-/// The byte at a place, or 0 past the sheet's end.
-pub fn byte_at(sheet: &[u8], place: usize) -> u8
-    ensures { result ≡ byte sheet.now place }
-{
-    if place < sheet.len() { sheet[place] } else { 0 }
+/// An entry of a sheet.
+#[derive(Clone, Copy)]
+pub struct Entry<'a> {
+    sheet: &'a [u8],
+    /// where it begins
+    place: usize,
 }
 
-/// The two bytes from a place on, the high one first.
-pub(crate) fn word_at(sheet: &[u8], place: usize) -> u16
-    requires { place < 2 ^ 32 }
-    ensures { result ≡ word sheet.now place }
-{
-    u16::from_be_bytes([byte_at(sheet, place), byte_at(sheet, place + 1)])
-}
+impl<'a> Entry<'a> {
+    /// The entry that begins at a place.
+    pub fn at(sheet: &'a [u8], place: usize) -> Entry<'a>
+        ensures sheet { result.sheet.now ≡ sheet.now }
+        ensures place { result.place ≡ place }
+    {
+        Entry { sheet, place }
+    }
 
-/// The kind of the entry at a place, if the entry may stand there and is whole.
-pub fn kind_at(sheet: &[u8], place: usize) -> Result<Kind, SheetFault>
-    ensures { told Some refusal_of result ≡ answer (entry_questions sheet.now place) (kind_of (byte sheet.now place)) }
-{
-    let kind = Kind::of(char::from(byte_at(sheet, place)));
-    let header = begins_sheet(kind);
-    if place == 0 && !header {
-        return Err(SheetFault::FirstKind);
+    /// The byte at an offset from the entry's beginning, or 0 past the sheet's end.
+    pub fn byte(&self, offset: usize) -> u8
+        ensures { result ≡ byte self.now.sheet.now (self.now.place + offset) }
+    {
+        let place = self.place.saturating_add(offset);
+        self.sheet.get(place).copied().unwrap_or(0)
     }
-    if place > 0 && header {
-        return Err(SheetFault::LaterKind);
-    }
-    let Some(kind) = kind else {
-        return Err(SheetFault::UnknownKind);
-    };
-    if !is_whole(sheet, place, kind) {
-        return Err(SheetFault::Short);
-    }
-    Ok(kind)
-}
 
-fn begins_sheet(kind: Option<Kind>) -> bool
-    ensures { result ≡ begins_sheet kind }
-{
-    match kind {
-        Some(kind) => kind.is_header(),
-        None => false,
+    /// The two bytes from an offset on, the high one first.
+    pub(crate) fn word(&self, offset: usize) -> u16
+        requires { offset < 2 ^ 32 }
+        ensures { result ≡ word self.now.sheet.now (self.now.place + offset) }
+    {
+        u16::from_be_bytes([self.byte(offset), self.byte(offset + 1)])
     }
-}
 
-fn is_whole(sheet: &[u8], place: usize, kind: Kind) -> bool
-    ensures { result ≡ whole sheet.now place (Some kind) }
-{
-    place < sheet.len() && sheet.len() - place > kind.body_length()
+    /// The kind of the entry, if it may stand at its place and is whole.
+    pub fn kind(&self) -> Result<Kind, SheetFault>
+        ensures { told Some refusal_of result ≡ answer (entry_questions self.now.sheet.now self.now.place) (kind_of (byte self.now.sheet.now self.now.place)) }
+    {
+        let kind = Kind::try_from(char::from(self.byte(0)));
+        let header = kind.is_ok_and(Kind::is_header);
+        if self.place == 0 && !header {
+            return Err(SheetFault::FirstKind);
+        }
+        if self.place > 0 && header {
+            return Err(SheetFault::LaterKind);
+        }
+        let kind = kind?;
+        if !self.is_whole(kind) {
+            return Err(SheetFault::Short);
+        }
+        Ok(kind)
+    }
+
+    fn is_whole(&self, kind: Kind) -> bool
+        ensures { result ≡ whole self.now.sheet.now self.now.place (Some kind) }
+    {
+        self.sheet.len().saturating_sub(self.place) > kind.body_length()
+    }
 }

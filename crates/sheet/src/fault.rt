@@ -37,19 +37,19 @@ pub struct PlacedFault {
     pub fault: SheetFault,
 }
 
-impl SheetFault {
-    /// Its number and the layer where it arose.
-    pub fn refusal(self) -> Refusal
-        ensures { result ≡ refusal_of self }
-    {
-        match self {
+/// The number of the fault, and the layer where it arose.
+impl From<SheetFault> for Refusal {
+    ghost from_gives = { λ f r. r ≡ refusal_of f };
+
+    fn from(fault: SheetFault) -> Refusal {
+        match fault {
             SheetFault::TooLong => of_sheet(20),
             SheetFault::FirstKind => of_sheet(21),
             SheetFault::LaterKind => of_sheet(22),
             SheetFault::UnknownKind => of_sheet(23),
             SheetFault::Short => of_sheet(24),
             SheetFault::WireByte => of_sheet(25),
-            SheetFault::Roll(fault) => fault.refusal(),
+            SheetFault::Roll(fault) => Refusal::from(fault),
             SheetFault::Franchise(fault) => fault.refusal(),
             SheetFault::Untolerable => Refusal {
                 number: 16,
@@ -88,8 +88,5 @@ impl From<FranchiseFault> for SheetFault {
 pub fn placed<T>(place: usize, answer: Result<T, SheetFault>) -> Result<T, PlacedFault>
     ensures { result ≡ at_place place answer }
 {
-    match answer {
-        Ok(x) => Ok(x),
-        Err(fault) => Err(PlacedFault { place, fault }),
-    }
+    answer.map_err(|fault| PlacedFault { place, fault })
 }

@@ -1,11 +1,11 @@
 //! Judging a header: whether a run can be begun as it says.
-ghost use Rattle.std.specs.Prelude.{◌≡◌, true, length, take, if◌then◌else◌, Ok, Err, OnOk};
-ghost use Rattle.protocol.specs.Refusals.{answer, told, in_range};
+ghost use Rattle.std.specs.Prelude.{◌≡◌, length, take, if◌then◌else◌, Ok, Err, OnOk};
+ghost use Rattle.protocol.specs.Refusals.{answer, told};
 ghost use Rattle.franchise.specs.Marks.{set_of};
 ghost use Rattle.franchise.specs.Polls.{votes as votes_poll, table_poll};
 ghost use Rattle.franchise.specs.Refused.{votes_questions, refusal_of as franchise_refusal_of};
 ghost use Rattle.roll.specs.Refused.{refusal_of as roll_refusal_of};
-ghost use Rattle.roll.specs.Views.{of_open, of_sealed};
+ghost use Rattle.protocol.specs.Sets.{bits};
 ghost use Rattle.sheet.specs.declared.fault.SheetFault.TheVariants.{Untolerable};
 ghost use Rattle.sheet.specs.Faults.{refusal_of};
 ghost use Rattle.sheet.specs.Headers.{header_questions, roll_questions, franchise_questions, naming_questions, roll_at, all_named};
@@ -26,22 +26,23 @@ impl Header {
     pub fn judge(&self) -> Result<(), SheetFault>
         ensures { told (λ x. x) refusal_of result ≡ answer (header_questions self.now) tt }
     {
-        if self.wire > 1 {
+        if self.wire.is_none() {
             return Err(SheetFault::WireByte);
         }
         let roll = self.roll()?;
-        let faulty = roll.faulty();
-        let (size, _, _) = roll.into_numbers();
-        self.ballot.judge(size, &faulty)
+        let judged = self.ballot.judge(&roll);
+        let _ = roll.into_numbers();
+        judged
     }
 
     /// The sealed roll on which the header's faulty processes are named.
     fn roll(&self) -> Result<SealedRoll, RollFault>
-        ensures { told of_sealed roll_refusal_of result ≡ answer (roll_questions self.now) (roll_at self.now) }
+        ensures { told (λ r. r) roll_refusal_of result ≡ answer (roll_questions self.now) (roll_at self.now) }
     {
         let mut roll = OpenRoll::open(self.size, self.rounds)?;
         let named = name_all(&mut roll, self.faulty);
         let roll = roll.seal();
+        // No `?` and no combinator, since a roll on which a naming was refused cannot be let go.
         match named {
             Ok(()) => Ok(roll),
             Err(fault) => {
@@ -54,37 +55,42 @@ impl Header {
 
 impl Ballot {
     /// Whether the franchise can be made, and the processes may be faulty together in it.
-    fn judge(&self, size: u8, faulty: &Members) -> Result<(), SheetFault>
-        requires { in_range size ≡ true }
-        ensures { told (λ x. x) refusal_of result ≡ answer (franchise_questions size self.now (set_of faulty.now)) tt }
+    fn judge(&self, roll: &SealedRoll) -> Result<(), SheetFault>
+        ensures { told (λ x. x) refusal_of result ≡ answer (franchise_questions roll.now.size self.now (bits roll.now.faulty)) tt }
     {
+        let size = roll.size();
+        let faulty = roll.faulty();
         match *self {
             Ballot::Heads { threshold } => {
-                tolerates(&Heads::new(size, u16::from(threshold))?, faulty)
+                tolerates(&Heads::new(size, u16::from(threshold))?, &faulty)
             }
             Ballot::Votes { threshold, votes } => {
-                tolerates(&first_votes(&votes, size, threshold)?, faulty)
+                tolerates(&first_votes(&votes, roll, threshold)?, &faulty)
             }
         }
     }
 }
 
 /// A franchise by the votes of the processes that there are.
-fn first_votes(votes: &[Vote; 16], size: u8, threshold: Threshold) -> Result<Votes, FranchiseFault>
-    requires { in_range size ≡ true }
-    ensures length { length (take size votes.now) ≡ size }
-    ensures answer { told (λ v. table_poll v.size v.table v.threshold) franchise_refusal_of result ≡ answer (votes_questions (take size votes.now) threshold) (votes_poll (take size votes.now) threshold) }
+fn first_votes(
+    votes: &[Vote; 16],
+    roll: &SealedRoll,
+    threshold: Threshold,
+) -> Result<Votes, FranchiseFault>
+    ensures length { length (take roll.now.size votes.now) ≡ roll.now.size }
+    ensures answer { told (λ v. table_poll v.size v.table v.threshold) franchise_refusal_of result ≡ answer (votes_questions (take roll.now.size votes.now) threshold) (votes_poll (take roll.now.size votes.now) threshold) }
 {
-    Votes::new(&votes[0..size as usize], threshold)
+    Votes::new(&votes[0..usize::from(roll.size())], threshold)
 }
 
 /// Names each process whose bit is set, on a roll that names none.
 fn name_all(roll: &mut OpenRoll, faulty: u16) -> Result<(), RollFault>
-    requires { (of_open roll.old).faulty ≡ 0 }
-    ensures answer { told (λ x. x) roll_refusal_of result ≡ answer (naming_questions (of_open roll.old).size faulty) tt }
-    ensures after { OnOk result (of_open roll.new ≡ all_named (of_open roll.old) faulty) }
+    requires { roll.old.faulty ≡ 0 }
+    ensures answer { told (λ x. x) roll_refusal_of result ≡ answer (naming_questions roll.old.size faulty) tt }
+    ensures after { OnOk result (roll.new ≡ all_named roll.old faulty) }
 {
     let members = Members::from_bits(faulty);
+    // No index is counted: the number is the process that is named.
     for process in 0..16 {
         if members.contains(process) {
             roll.name(process)?;

@@ -1,8 +1,12 @@
 //! The kinds of entries that a sheet is made of.
-ghost use Rattle.std.specs.Prelude.{◌≡◌};
-ghost use Rattle.sheet.specs.Kinds.{kind_of, body_length, is_header};
+ghost use Rattle.std.specs.Prelude.{◌≡◌, ok_or, Some};
+ghost use Rattle.sheet.specs.declared.fault.SheetFault.TheVariants.{UnknownKind};
+ghost use Rattle.sheet.specs.Kinds.{kind_of, letter_text, body_length, is_header};
 
-#[derive(Clone, Copy)]
+use super::fault::SheetFault;
+use std::fmt;
+
+#[derive(Clone, Copy, Debug, PartialEq, Eq)]
 pub enum Kind {
     Heads,
     Votes,
@@ -13,23 +17,44 @@ pub enum Kind {
     Standing,
 }
 
-impl Kind {
-    /// The kind that a letter stands for.
-    pub fn of(letter: char) -> Option<Kind>
-        ensures { result ≡ kind_of letter }
-    {
+/// The kind that a letter stands for.
+impl TryFrom<char> for Kind {
+    type Error = SheetFault;
+
+    ghost try_from_gives = { λ letter r. r ≡ ok_or (kind_of letter) UnknownKind };
+
+    fn try_from(letter: char) -> Result<Kind, SheetFault> {
         match letter {
-            'H' => Some(Kind::Heads),
-            'W' => Some(Kind::Votes),
-            'P' => Some(Kind::Propose),
-            'S' => Some(Kind::Step),
-            'F' => Some(Kind::Plant),
-            'D' => Some(Kind::Deliver),
-            'Q' => Some(Kind::Standing),
-            _ => None,
+            'H' => Ok(Kind::Heads),
+            'W' => Ok(Kind::Votes),
+            'P' => Ok(Kind::Propose),
+            'S' => Ok(Kind::Step),
+            'F' => Ok(Kind::Plant),
+            'D' => Ok(Kind::Deliver),
+            'Q' => Ok(Kind::Standing),
+            _ => Err(SheetFault::UnknownKind),
         }
     }
+}
 
+/// The letter of the kind.
+impl fmt::Display for Kind {
+    ghost output = { λ kind. Some (letter_text kind) };
+
+    fn fmt<W: fmt::Write>(&self, f: &mut fmt::Formatter<W>) -> fmt::Result {
+        f.write_str(match self {
+            Kind::Heads => "H",
+            Kind::Votes => "W",
+            Kind::Propose => "P",
+            Kind::Step => "S",
+            Kind::Plant => "F",
+            Kind::Deliver => "D",
+            Kind::Standing => "Q",
+        })
+    }
+}
+
+impl Kind {
     /// How many bytes follow the letter.
     pub fn body_length(self) -> usize
         ensures { result ≡ body_length self }
