@@ -1,5 +1,5 @@
 -- What follows once a header is read: its line, or the fault that it is judged by.
-use Rattle.std.proofs.Common.{◌≡◌, ℕ, true, leb, List, length, Some, Ok, Err, Option, Result, sym, ap, ◌∙◌, arith}
+use Rattle.std.proofs.Common.{◌≡◌, ℕ, true, leb, List, length, Ok, Err, Option, Result, sym, ap, ◌∙◌, arith}
 use Rattle.protocol.specs.Refusals.{Question, answer, told, first_no}
 use Rattle.protocol.proofs.Asking.{granted_none, refused_some}
 use Rattle.sheet.specs.declared.fault.SheetFault.{SheetFault}
@@ -7,11 +7,9 @@ use Rattle.sheet.specs.declared.fault.PlacedFault.{PlacedFault}
 use Rattle.sheet.specs.declared.header.Header.{Header}
 use Rattle.sheet.specs.declared.kind.Kind.{Kind}
 use Rattle.lines.specs.declared.line.Line.{Line}
-use Rattle.sheet.specs.Bytes.{byte}
 use Rattle.sheet.specs.Faults.{refusal_of, at_place}
 use Rattle.lines.specs.Lines.{either_lines}
 use Rattle.sheet.specs.Headers.{header_at, header_questions, first_entry, known_kind}
-use Rattle.sheet.specs.Kinds.{kind_of}
 use Rattle.lines.specs.Listing.{unless, faulted, admitted}
 use Rattle.sheet.specs.Entries.{entry_questions}
 
@@ -37,9 +35,6 @@ module _
 
   same : known_kind (k, h) ≡ first_entry bs
   same = (granted_none (first_no (entry_questions bs 0)) (first_entry bs) (known_kind (k, h)) known).1
-
-  pub kind_is : kind_of (byte bs 0) ≡ Some k
-  kind_is = sym (ap (λ (x : Option Kind × Header). x.0) same)
 
   pub judged_lines :
       (j : Result (Unit {0}) SheetFault) → told (λ x. x) refusal_of j ≡ answer (header_questions h) (tt {0})

@@ -4,13 +4,14 @@ ghost use Rattle.lines.specs.Lines.{fault_line, line_text, lines_text};
 
 use protocol::refusal::Refusal;
 use sheet::fault::PlacedFault;
+use sheet::kind::Kind;
 use std::alloc::{AllocError, Global};
 use std::fmt;
 
-#[derive(Clone, Copy)]
+#[derive(Clone, Copy, Debug, PartialEq, Eq)]
 pub enum Line {
     /// an entry that was carried out and has nothing more to tell
-    Done { letter: char, place: usize },
+    Done { kind: Kind, place: usize },
     /// a refusal that ends the listing
     Fault { place: usize, refusal: Refusal },
     /// the sheet's end
@@ -21,8 +22,8 @@ impl fmt::Display for Line {
     ghost output = { λ x. Some (line_text x) };
 
     fn fmt<W: fmt::Write>(&self, f: &mut fmt::Formatter<W>) -> fmt::Result {
-        match *self {
-            Line::Done { letter, place } => write!(f, "{letter} {place} ok"),
+        match self {
+            Line::Done { kind, place } => write!(f, "{kind} {place} ok"),
             Line::Fault { place, refusal } => write!(f, "fault {place} {refusal}"),
             Line::End { length } => write!(f, "end {length}"),
         }
@@ -30,12 +31,14 @@ impl fmt::Display for Line {
 }
 
 /// The line with which a fault ends a listing.
-pub fn fault_line(fault: PlacedFault) -> Line
-    ensures { result ≡ fault_line fault }
-{
-    Line::Fault {
-        place: fault.place,
-        refusal: fault.fault.refusal(),
+impl From<PlacedFault> for Line {
+    ghost from_gives = { λ fault line. line ≡ fault_line fault };
+
+    fn from(fault: PlacedFault) -> Line {
+        Line::Fault {
+            place: fault.place,
+            refusal: Refusal::from(fault.fault),
+        }
     }
 }
 
@@ -45,9 +48,7 @@ pub fn text(heap: Global, lines: &[Line]) -> Result<String, AllocError>
 {
     let mut out = String::new(heap);
     for line in lines {
-        let Ok(()) = out.writeln(*line) else {
-            return Err(AllocError);
-        };
+        writeln!(out, "{line}")?;
     }
     Ok(out)
 }

@@ -7,8 +7,8 @@ ghost use Rattle.sheet.specs.Kinds.{kind_of};
 ghost use Rattle.lines.specs.Lines.{either_lines, lines_text};
 ghost use Rattle.lines.specs.Listing.{listing, admitted, later};
 
-use super::line::{Line, fault_line, text};
-use sheet::entry::{byte_at, kind_at};
+use super::line::{Line, text};
+use sheet::entry::Entry;
 use sheet::fault::{PlacedFault, SheetFault, placed};
 use sheet::header::Header;
 use sheet::kind::Kind;
@@ -22,24 +22,22 @@ pub fn listing_text(heap: Global, sheet: &[u8]) -> Result<String, AllocError>
     ensures { IfOk result (λ s. string_bytes s ≡ lines_text (listing sheet.now)) }
 {
     let lines = lines_of(heap, sheet)?;
-    text(heap, lines.as_slice())
+    text(heap, &lines)
 }
 
 fn lines_of(heap: Global, sheet: &[u8]) -> Result<Vec<Line>, AllocError>
     ensures { IfOk result (λ v. v.items ≡ listing sheet.now) }
 {
-    let mut lines = Vec::new(heap);
     match admit(sheet) {
-        Err(fault) => lines.push(fault_line(fault))?,
+        Err(fault) => Ok(vec![in heap; Line::from(fault)]?),
         Ok(kind) => {
-            let letter = char::from(byte_at(sheet, 0));
-            lines.push(Line::Done { letter, place: 0 })?;
+            let mut lines = vec![in heap; Line::Done { kind, place: 0 }]?;
             if let Some(line) = line_at(sheet, 1 + kind.body_length()) {
                 lines.push(line)?;
             }
+            Ok(lines)
         }
     }
-    Ok(lines)
 }
 
 /// The kind of the header, if the sheet is short enough and its header is good.
@@ -66,8 +64,6 @@ fn line_at(sheet: &[u8], place: usize) -> Option<Line>
     if place >= length {
         return Some(Line::End { length });
     }
-    match placed(place, kind_at(sheet, place)) {
-        Err(fault) => Some(fault_line(fault)),
-        Ok(_) => None,
-    }
+    let fault = placed(place, Entry::at(sheet, place).kind()).err()?;
+    Some(Line::from(fault))
 }

@@ -20,14 +20,14 @@ kind_of k =
     (cond (is "Q" k) (Some Standing) None))))))
 
 -- the letter of a kind, as it is printed
-abbrev pub letter_text : Kind → List ℕ
-letter_text Heads = codes "H"
-letter_text Votes = codes "W"
-letter_text Propose = codes "P"
-letter_text Step = codes "S"
-letter_text Plant = codes "F"
-letter_text Deliver = codes "D"
-letter_text Standing = codes "Q"
+abbrev pub letter_of : Kind → List ℕ
+letter_of Heads = codes "H"
+letter_of Votes = codes "W"
+letter_of Propose = codes "P"
+letter_of Step = codes "S"
+letter_of Plant = codes "F"
+letter_of Deliver = codes "D"
+letter_of Standing = codes "Q"
 
 -- how many bytes follow the letter
 abbrev pub body_length : Kind → ℕ

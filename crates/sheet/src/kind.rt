@@ -1,7 +1,7 @@
 //! The kinds of entries that a sheet is made of.
 ghost use Rattle.std.specs.Prelude.{◌≡◌, ok_or, Some};
 ghost use Rattle.sheet.specs.declared.fault.SheetFault.TheVariants.{UnknownKind};
-ghost use Rattle.sheet.specs.Kinds.{kind_of, letter_text, body_length, is_header};
+ghost use Rattle.sheet.specs.Kinds.{kind_of, letter_of, body_length, is_header};
 
 use super::fault::SheetFault;
 use std::fmt;
@@ -39,7 +39,7 @@ impl TryFrom<char> for Kind {
 
 /// The letter of the kind.
 impl fmt::Display for Kind {
-    ghost output = { λ kind. Some (letter_text kind) };
+    ghost output = { λ kind. Some (letter_of kind) };
 
     fn fmt<W: fmt::Write>(&self, f: &mut fmt::Formatter<W>) -> fmt::Result {
         f.write_str(match self {

@@ -9,7 +9,7 @@ fn main(rt: HostRuntime) -> io::Result<()> {
     for line in rt.lines(heap) {
         let name = line?;
         let sheet = fs::read(&rt, format!(in heap; "{name}.sheet")?)?;
-        let text = listing_text(heap, sheet.as_slice())?;
+        let text = listing_text(heap, &sheet)?;
         println!(rt; "== {name}")?;
         rt.print(&text)?;
     }
