@@ -1,9 +1,10 @@
 -- Naming the faulty processes of a header one after another.
-use Rattle.std.proofs.Common.{◌≡◌, ℕ, zero, suc, ◌+◌, ◌*◌, ◌/◌, ◌%◌, ◌^◌, ◌<◌, true, false, not, ◌||◌, ltb, Ok, Err, sym, refl, ap, ◌∙◌, inl, inr, mod-lt, one-mul, add-one, arith, pow_pos}
+use Rattle.std.proofs.Common.{◌≡◌, ℕ, zero, suc, ◌+◌, ◌*◌, ◌/◌, ◌%◌, ◌^◌, ◌<◌, true, false, not, ◌||◌, ltb, Ok, Err, sym, refl, ap, ◌∙◌, rules, mod-lt, one-mul, add-one, arith, pow_pos}
 use native.Mathlib.Nat.{mod-one}
 use lib.Bits.{bit_or, or_shifted_r}
 use lib.Pow.{mod-pow-add}
-use Rattle.std.proofs.lemmas.Bool.{eqb-true, eqb-false, and_from, and_left, and_right, cases_eq, or_right, or_left, or_from, not_from_true, not_from_false}
+use Rattle.std.proofs.lemmas.Grind.{common_steps}
+use Rattle.std.proofs.lemmas.Bool.{eqb-true, eqb-false}
 use Rattle.protocol.specs.declared.refusal.Refusal.{Refusal}
 use Rattle.protocol.specs.Refusals.{answer, leaves}
 use Rattle.protocol.specs.Sets.{Set, bits}
@@ -20,29 +21,22 @@ low_yes : (f i : ℕ) → bits f i ≡ true → bit_or (f % 2 ^ i) (2 ^ i) ≡ f
 low_yes f i e =
     let one : f / 2 ^ i % 2 ≡ 1 = eqb-true _ _ e in
     let set : bit_or (f % 2 ^ i) (1 * 2 ^ i) ≡ 1 * 2 ^ i + f % 2 ^ i = or_shifted_r 1 i (f % 2 ^ i) (mod-lt f (pow_pos i)) in
-    ap (bit_or (f % 2 ^ i)) (sym (one-mul (2 ^ i))) ∙ set ∙ sym (low_bits f i ∙ rw one)
+    rw (low_bits, one, one-mul) (simp one-mul at set)
 
 low_no : (f i : ℕ) → bits f i ≡ false → f % 2 ^ i ≡ f % 2 ^ (i + 1)
 low_no f i e =
-    let ne = eqb-false (f / 2 ^ i % 2) 1 e in
-    let lt = mod-lt (f / 2 ^ i) {m = 2} (omega arith) in
-    let none : f / 2 ^ i % 2 ≡ 0 = omega arith in
-    let h = low_bits f i in
-    sym (h ∙ rw none (omega arith))
+    let none : f / 2 ^ i % 2 ≡ 0 = omega (arith, eqb-false (f / 2 ^ i % 2) 1 e) in
+    rw (low_bits, none) (omega arith)
 
 module _ (n : ℕ) (s : Set) where
   below_more : (i : ℕ) → members_below n s i ≡ true → (not (s i) || ltb i n) ≡ true → members_below n s (i + 1) ≡ true
   unfolding members_below
-  below_more i h e = rw add-one (and_from _ _ h e)
+  below_more i h e = rw add-one (grind (arith, common_steps))
 
   below_not : (k i : ℕ) → i < k → (not (s i) || ltb i n) ≡ false → members_below n s k ≡ false
   unfolding members_below
   below_not zero i h e = absurd (omega arith)
-  below_not (suc k) i h e =
-      elim (cases_eq i k) [
-        | inl same ↦ and_right (members_below n s k) _ (ap (λ j. not (s j) || ltb j n) (sym same) ∙ e)
-        | inr other ↦ and_left (members_below n s k) _ (below_not k i (omega arith) e)
-      ]
+  below_not (suc k) i h e = grind (arith, common_steps, below_not k i)
 
 -- on a roll that names none, no process below 0 is named
 pub none_named :
@@ -59,7 +53,7 @@ module _ (r : Terms) (f i : ℕ) (now : Terms) (same : now ≡ all_named r (f % 
       bits f i ≡ false → (now ≡ all_named r (f % 2 ^ (i + 1))) × (members_below r.size (bits f) (i + 1) ≡ true)
   passed_over e = (
     same ∙ ap (all_named r) (low_no f i e),
-    below_more r.size (bits f) i below (or_left (not (bits f i)) (ltb i r.size) (not_from_false _ e)),
+    below_more r.size (bits f) i below (search rules),
   )
 
   pub named_more :
@@ -70,7 +64,7 @@ module _ (r : Terms) (f i : ℕ) (now : Terms) (same : now ≡ all_named r (f % 
       let within : ltb i now.size ≡ true = asked_yes (ltb i now.size) _ _ (granted_none _ (tt {0}) (tt {0}) a).0 in
       let done : next ≡ named now i = rw within at left in (
         done ∙ ap (λ x. named x i) same ∙ ap (all_named r) (low_yes f i e),
-        below_more r.size (bits f) i below (or_right (not (bits f i)) (ltb i r.size) (rw size_is at within)),
+        below_more r.size (bits f) i below (grind (arith, common_steps, size_is)),
       )
 
   pub named_beyond :
@@ -79,5 +73,5 @@ module _ (r : Terms) (f i : ℕ) (now : Terms) (same : now ≡ all_named r (f % 
   named_beyond e h q a =
       let no_more = asked_no (ltb i now.size) _ q (refused_some _ (tt {0}) q a) in
       let out : ltb i r.size ≡ false = rw size_is at no_more.0 in
-      let missed = below_not r.size (bits f) 16 i h (or_from (not (bits f i)) (ltb i r.size) (not_from_true _ e) out) in
+      let missed = below_not r.size (bits f) 16 i h (search rules) in
       rw missed (ap Err (sym no_more.1))

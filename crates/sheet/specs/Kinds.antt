@@ -1,12 +1,16 @@
 -- The kinds of entries, their letters, and how long their bodies are.
-use Rattle.std.specs.Prelude.{ℕ, Bool, true, false, cond, Some, None, codes, Option, List, ◌==◌, slice_index}
+use Rattle.std.specs.Prelude.{ℕ, Bool, true, false, cond, Some, None, codes, Option, ◌==◌, slice_index}
 use Prim.Native.String.{String}
 use Rattle.sheet.specs.declared.kind.Kind.{Kind}
 use Rattle.sheet.specs.declared.kind.Kind.TheVariants.{Heads, Votes, Propose, Step, Plant, Deliver, Standing}
 
+-- the letter as a character
+abbrev pub code : String → ℕ
+code letter = slice_index (codes letter) 0
+
 -- the character k is the letter
 abbrev pub is : String → ℕ → Bool
-is letter k = k == slice_index (codes letter) 0
+is letter k = k == code letter
 
 -- the kind that a letter stands for
 abbrev pub kind_of : ℕ → Option Kind
@@ -19,15 +23,15 @@ kind_of k =
     (cond (is "D" k) (Some Deliver)
     (cond (is "Q" k) (Some Standing) None))))))
 
--- the letter of a kind, as it is printed
-abbrev pub letter_of : Kind → List ℕ
-letter_of Heads = codes "H"
-letter_of Votes = codes "W"
-letter_of Propose = codes "P"
-letter_of Step = codes "S"
-letter_of Plant = codes "F"
-letter_of Deliver = codes "D"
-letter_of Standing = codes "Q"
+-- the letter that stands for a kind
+abbrev pub letter_of : Kind → ℕ
+letter_of Heads = code "H"
+letter_of Votes = code "W"
+letter_of Propose = code "P"
+letter_of Step = code "S"
+letter_of Plant = code "F"
+letter_of Deliver = code "D"
+letter_of Standing = code "Q"
 
 -- how many bytes follow the letter
 abbrev pub body_length : Kind → ℕ

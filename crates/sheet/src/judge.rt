@@ -90,7 +90,7 @@ fn name_all(roll: &mut OpenRoll, faulty: u16) -> Result<(), RollFault>
     ensures after { OnOk result (roll.new ≡ all_named roll.old faulty) }
 {
     let members = Members::from_bits(faulty);
-    // No index is counted: the number is the process that is named.
+    // A filter would be no plainer: the number is the process that is named.
     for process in 0..16 {
         if members.contains(process) {
             roll.name(process)?;

@@ -1,17 +1,25 @@
-use Rattle.std.proofs.Common.{◌≡◌, length, Err, sym, ap, ◌∙◌, rules}
+use Rattle.std.proofs.Common.{◌≡◌, [], ◌∷◌, length, Ok, Err, ap, ◌∙◌, rules}
 use Rattle.std.proofs.lemmas.Bool.{le-leb}
+use Rattle.protocol.specs.Refusals.{answer}
+use Rattle.sheet.specs.Entries.{entry_questions}
+use Rattle.sheet.specs.Faults.{refusal_of}
+use Rattle.sheet.specs.Headers.{header_questions, first_entry, known_kind}
+use Rattle.lines.specs.declared.line.Line.TheVariants.{Fault}
 use Rattle.lines.specs.Lines.{either_lines}
-use Rattle.lines.proofs.Admitting.{judged_lines}
+use Rattle.lines.proofs.Admitting.{header_refused}
 use Rattle.lines.proofs.listing.admit.Goals as goal
 
 pub returns-in_err-placed-clause-lines : goal.returns-in_err-placed-clause-lines
 returns-in_err-placed-clause-lines c =
     let bs = c.args.sheet.now in
+    let k = c.in_ok-kind.kind in
+    let h = c.in_ok-kind.header in
+    let e = c.in_err-placed.field-0.0 in
     let short = le-leb (length bs) 32768 c.if-sheet-gt-LONGEST.false in
-    let was = sym c.placed.ensures ∙ c.in_ok-kind.was in
-    let came : c.from_residual-in_err-placed.result ≡ Err c.in_err-placed.field-0.0 = search rules in
+    let read : Ok (known_kind (k, h)) ≡ answer (entry_questions bs 0) (first_entry bs) = search rules in
+    let judged : Err (refusal_of e.fault) ≡ answer (header_questions h) (tt {0}) = search rules in
+    let place : e.place ≡ 0 = search rules in
+    let came : c.from_residual-in_err-placed.result ≡ Err e = search rules in
     λ ls.
-    ap (λ r. either_lines r ls) came
-    ∙ judged_lines bs short c.read.result c.read.ensures c.in_ok-kind.kind c.in_ok-kind.header was
-    c.judge.result c.judge.ensures (Err c.in_err-placed.field-0.0)
-    (sym c.in_err-placed.was ∙ c.placed-2.ensures) ls
+      ap (λ r. either_lines r ls) came ∙ ap (λ p. Fault p (refusal_of e.fault) ∷ []) place
+      ∙ header_refused bs k h (refusal_of e.fault) short read judged ls
