@@ -1,11 +1,11 @@
 //! Judging a header: whether a run can be begun as it says.
 ghost use Rattle.std.specs.Prelude.{◌≡◌, length, take, if◌then◌else◌, Ok, Err, OnOk};
 ghost use Rattle.protocol.specs.Refusals.{answer, told};
+ghost use Rattle.protocol.specs.Sets.{bits};
 ghost use Rattle.franchise.specs.Marks.{set_of};
 ghost use Rattle.franchise.specs.Polls.{votes as votes_poll, table_poll};
 ghost use Rattle.franchise.specs.Refused.{votes_questions, refusal_of as franchise_refusal_of};
 ghost use Rattle.roll.specs.Refused.{refusal_of as roll_refusal_of};
-ghost use Rattle.protocol.specs.Sets.{bits};
 ghost use Rattle.sheet.specs.declared.fault.SheetFault.TheVariants.{Untolerable};
 ghost use Rattle.sheet.specs.Faults.{refusal_of};
 ghost use Rattle.sheet.specs.Headers.{header_questions, roll_questions, franchise_questions, naming_questions, roll_at, all_named};
