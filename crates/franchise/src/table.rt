@@ -5,9 +5,7 @@ ghost use Rattle.franchise.specs.Marks.{set_of};
 ghost use Rattle.franchise.specs.Weights.{weight, whole, listed};
 
 use super::members::Members;
-
-/// The votes of one process.
-pub type Vote = u16;
+use super::votes::Vote;
 
 #[derive(Clone, Copy)]
 pub struct Table {

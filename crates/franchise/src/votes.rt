@@ -7,8 +7,11 @@ ghost use Rattle.franchise.specs.Refused.{fair_vote, fair, votes_questions, refu
 use super::counted::Counted;
 use super::fault::FranchiseFault;
 use super::members::Members;
-use super::table::{Table, Vote};
+use super::table::Table;
 use super::tally::{Tally, Threshold};
+
+/// The votes of one process.
+pub type Vote = u16;
 
 #[derive(Clone, Copy)]
 pub struct Votes {

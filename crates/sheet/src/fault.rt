@@ -50,7 +50,7 @@ impl From<SheetFault> for Refusal {
             SheetFault::Short => of_sheet(24),
             SheetFault::WireByte => of_sheet(25),
             SheetFault::Roll(fault) => Refusal::from(fault),
-            SheetFault::Franchise(fault) => fault.refusal(),
+            SheetFault::Franchise(fault) => Refusal::from(fault),
             SheetFault::Untolerable => Refusal {
                 number: 16,
                 layer: Layer::Run,

@@ -78,7 +78,7 @@ fn first_votes(
     threshold: Threshold,
 ) -> Result<Votes, FranchiseFault>
     ensures length { length (take roll.now.size votes.now) ≡ roll.now.size }
-    ensures answer { told (λ v. table_poll v.size v.table v.threshold) franchise_refusal_of result ≡ answer (votes_questions (take roll.now.size votes.now) threshold) (votes_poll (take roll.now.size votes.now) threshold) }
+    ensures answer { told (λ v. table_poll v.table.size v.table.votes v.threshold) franchise_refusal_of result ≡ answer (votes_questions (take roll.now.size votes.now) threshold) (votes_poll (take roll.now.size votes.now) threshold) }
 {
     Votes::new(&votes[0..usize::from(roll.size())], threshold)
 }
