@@ -2,6 +2,7 @@
 ghost use Rattle.std.specs.Prelude.{◌≡◌, ◌≤◌};
 ghost use Rattle.protocol.specs.Sets.{bits};
 ghost use Rattle.franchise.specs.Marks.{set_of};
+ghost use Rattle.roll.specs.Views.{Ranges};
 
 use super::rolls::{Roll, SealedRoll};
 use franchise::members::Members;
@@ -35,7 +36,7 @@ impl SealedRoll {
     // A tuple, since its callers take it apart where they call this.
     pub fn into_numbers(self) -> (u8, u8, u16)
         ensures value { result ≡ (self.size, self.rounds, self.faulty) }
-        ensures ranges { (1 ≤ result.0) × (result.0 ≤ 16) × (1 ≤ result.1) × (result.1 ≤ 16) }
+        ensures ranges { Ranges self }
     {
         let Roll {
             size,
