@@ -45,6 +45,7 @@ impl Counted for Heads {
 
     fn tally(&self, set: &Members) -> Tally {
         Tally {
+            // `as`, since `u64` has no `From<usize>`
             votes: set.count_below(self.size) as u64,
             total: u64::from(self.size),
             threshold: self.threshold,

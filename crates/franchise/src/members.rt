@@ -21,6 +21,7 @@ impl Members {
     }
 
     /// The processes whose bits are set: process i has the weight 2 to the power i.
+    // By name, since `from` would not say that the number is read by its bits.
     pub fn from_bits(bits: u16) -> Members
         ensures members { set_of result ≡ set_bits bits }
     {

@@ -7,6 +7,8 @@ ghost use Rattle.franchise.specs.Weights.{weight, whole, listed};
 use super::members::Members;
 use super::votes::Vote;
 
+/// A number of votes for each of some processes.
+// An array with a length, since a franchise is copied and asks for no heap.
 #[derive(Clone, Copy)]
 pub struct Table {
     size: u8,
@@ -30,6 +32,7 @@ impl Table {
         let mut table = [0; 16];
         table[..votes.len()].copy_from_slice(votes);
         Some(Table {
+            // `as`, since `try_from` would have an error arm that never comes
             size: votes.len() as u8,
             votes: table,
             total: votes.iter().map(|&vote| u64::from(vote)).sum(),
@@ -55,6 +58,7 @@ impl Table {
         ensures { result ≡ weight (listed (take self.now.size self.now.votes)) (set_of set.now) self.now.size }
     {
         let mut sum = 0;
+        // The project asks for a loop over the votes with their index here; the index is below 16.
         for (process, vote) in self.votes[..self.size()].iter().enumerate() {
             if set.contains(process as u8) {
                 sum += u64::from(*vote);

@@ -1,6 +1,5 @@
 //! Why a sheet is refused.
 ghost use Rattle.std.specs.Prelude.{◌≡◌};
-ghost use Rattle.protocol.specs.declared.refusal.Layer.TheVariants.{Sheet as SheetLayer};
 ghost use Rattle.sheet.specs.Faults.{refusal_of, at_place};
 ghost use Rattle.sheet.specs.declared.fault.SheetFault.TheVariants.{Roll as RollCase, Franchise as FranchiseCase};
 
@@ -42,29 +41,26 @@ impl From<SheetFault> for Refusal {
     ghost from_gives = { λ f r. r ≡ refusal_of f };
 
     fn from(fault: SheetFault) -> Refusal {
-        match fault {
-            SheetFault::TooLong => of_sheet(20),
-            SheetFault::FirstKind => of_sheet(21),
-            SheetFault::LaterKind => of_sheet(22),
-            SheetFault::UnknownKind => of_sheet(23),
-            SheetFault::Short => of_sheet(24),
-            SheetFault::WireByte => of_sheet(25),
-            SheetFault::Roll(fault) => Refusal::from(fault),
-            SheetFault::Franchise(fault) => Refusal::from(fault),
-            SheetFault::Untolerable => Refusal {
-                number: 16,
-                layer: Layer::Run,
-            },
+        let number = match fault {
+            SheetFault::TooLong => 20,
+            SheetFault::FirstKind => 21,
+            SheetFault::LaterKind => 22,
+            SheetFault::UnknownKind => 23,
+            SheetFault::Short => 24,
+            SheetFault::WireByte => 25,
+            SheetFault::Roll(fault) => return Refusal::from(fault),
+            SheetFault::Franchise(fault) => return Refusal::from(fault),
+            SheetFault::Untolerable => {
+                return Refusal {
+                    number: 16,
+                    layer: Layer::Run,
+                };
+            }
+        };
+        Refusal {
+            number,
+            layer: Layer::Sheet,
         }
-    }
-}
-
-fn of_sheet(number: u8) -> Refusal
-    ensures { result ≡ record { number = number; layer = SheetLayer } }
-{
-    Refusal {
-        number,
-        layer: Layer::Sheet,
     }
 }
 

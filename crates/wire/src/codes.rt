@@ -45,6 +45,7 @@ impl Message {
 
     // A name too, and no `TryFrom`, since every number has a message.
     /// The message with a code. A number from 32,768 on counts from 0 again.
+    // By name and no `TryFrom`, since every number has a message.
     pub fn with_code(code: u16) -> Message
         ensures { result ≡ message_with code }
     {

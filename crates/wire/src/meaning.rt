@@ -39,6 +39,7 @@ pub trait Wire {
     fn waiting(&self) -> u16
         ensures { result ≡ capped (all_waiting (kind.copies self.now)) }
     {
+        // `as`, since `try_from` would have an error arm that never comes
         self.held().min(65535) as u16
     }
 
@@ -46,6 +47,7 @@ pub trait Wire {
     fn free(&self) -> u16
         ensures { result ≡ capped (free_places kind self.now) }
     {
+        // `as`, for the same reason
         self.places().saturating_sub(self.held()).min(65535) as u16
     }
 
