@@ -8,7 +8,7 @@ use sheet::kind::Kind;
 use std::alloc::{AllocError, Global};
 use std::fmt;
 
-#[derive(Clone, Copy, Debug, PartialEq, Eq)]
+#[derive(Clone, Copy, PartialEq, Eq, Debug)]
 pub enum Line {
     /// an entry that was carried out and has nothing more to tell
     Done { kind: Kind, place: usize },

@@ -4,7 +4,7 @@ ghost use Rattle.roll.specs.Refused.{refusal_of};
 
 use protocol::refusal::{Layer, Refusal};
 
-#[derive(Clone, Copy, Debug, PartialEq, Eq)]
+#[derive(Clone, Copy, PartialEq, Eq, Debug)]
 pub enum RollFault {
     /// a process is not below the number of processes
     Process,

@@ -7,7 +7,7 @@ use franchise::fault::FranchiseFault;
 use protocol::refusal::{Layer, Refusal};
 use roll::fault::RollFault;
 
-#[derive(Clone, Copy)]
+#[derive(Clone, Copy, PartialEq, Eq, Debug)]
 pub enum SheetFault {
     /// it has more than 32,768 bytes
     TooLong,
@@ -30,7 +30,7 @@ pub enum SheetFault {
 }
 
 /// A fault, and the place in the sheet where it stands.
-#[derive(Clone, Copy)]
+#[derive(Clone, Copy, PartialEq, Eq, Debug)]
 pub struct PlacedFault {
     pub place: usize,
     pub fault: SheetFault,

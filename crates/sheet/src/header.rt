@@ -13,7 +13,7 @@ use super::kind::Kind;
 use std::array;
 
 /// What carries the messages of a run.
-#[derive(Clone, Copy, Debug, PartialEq, Eq)]
+#[derive(Clone, Copy, PartialEq, Eq, Debug)]
 pub enum WireKind {
     Bag,
     Counts,
@@ -35,14 +35,14 @@ impl TryFrom<u8> for WireKind {
 }
 
 /// How the processes vote.
-#[derive(Clone, Copy, Debug, PartialEq, Eq)]
+#[derive(Clone, Copy, PartialEq, Eq, Debug)]
 pub enum Ballot {
     Heads { threshold: u8 },
     /// the votes of processes that there are not are skipped
     Votes { threshold: u16, votes: [u16; 16] },
 }
 
-#[derive(Clone, Copy, Debug, PartialEq, Eq)]
+#[derive(Clone, Copy, PartialEq, Eq, Debug)]
 pub struct Header {
     /// how many processes there are
     pub size: u8,

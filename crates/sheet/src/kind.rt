@@ -7,7 +7,7 @@ ghost use Rattle.sheet.specs.Kinds.{kind_of, letter_of, LettersReadBack, body_le
 use super::fault::SheetFault;
 use std::fmt;
 
-#[derive(Clone, Copy, Debug, PartialEq, Eq)]
+#[derive(Clone, Copy, PartialEq, Eq, Debug)]
 pub enum Kind {
     Heads,
     Votes,
