@@ -1,5 +1,5 @@
 -- The kinds of entries, their letters, and how long their bodies are.
-use Rattle.std.specs.Prelude.{◌≡◌, ℕ, Bool, true, false, cond, Some, None, codes, Option, ◌==◌, slice_index}
+use Rattle.std.specs.Prelude.{ℕ, Bool, true, false, cond, Some, None, codes, Option, ◌==◌, slice_index}
 use Prim.Native.String.{String}
 use Rattle.sheet.specs.declared.kind.Kind.{Kind}
 use Rattle.sheet.specs.declared.kind.Kind.TheVariants.{Heads, Votes, Propose, Step, Plant, Deliver, Standing}
@@ -32,10 +32,6 @@ letter_of Step = code "S"
 letter_of Plant = code "F"
 letter_of Deliver = code "D"
 letter_of Standing = code "Q"
-
--- the letter of a kind stands for it
-abbrev pub LettersReadBack : Type 0
-LettersReadBack = (k : Kind) → kind_of (letter_of k) ≡ Some k
 
 -- how many bytes follow the letter
 abbrev pub body_length : Kind → ℕ

@@ -2,7 +2,7 @@
 ghost use Rattle.std.specs.Prelude.{◌≡◌, ok_or, Some};
 ghost use Rattle.std.proofs.Math.Utf8.{encode};
 ghost use Rattle.sheet.specs.declared.fault.SheetFault.TheVariants.{UnknownKind};
-ghost use Rattle.sheet.specs.Kinds.{kind_of, letter_of, LettersReadBack, body_length, is_header};
+ghost use Rattle.sheet.specs.Kinds.{kind_of, letter_of, body_length, is_header};
 
 use super::fault::SheetFault;
 use std::fmt;
@@ -84,8 +84,3 @@ impl Kind {
         matches!(self, Kind::Heads | Kind::Votes)
     }
 }
-
-/// The letter of a kind stands for it.
-pub fn letters_read_back()
-    ensures { LettersReadBack }
-{}
