@@ -47,6 +47,7 @@ pub fn text(heap: Global, lines: &[Line]) -> Result<String, AllocError>
     ensures { IfOk result (λ s. string_bytes s ≡ lines_text lines.now) }
 {
     let mut out = String::new(heap);
+    // A `for`: of what a closure writes to the text, nothing would be known after it.
     for line in lines {
         writeln!(out, "{line}")?;
     }
