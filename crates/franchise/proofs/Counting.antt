@@ -7,7 +7,6 @@ use Rattle.std.proofs.lemmas.List.Sums.{sum_by_more}
 use Rattle.std.proofs.lemmas.Bool.{cases_lt}
 use Rattle.protocol.specs.Sets.{Set}
 use Rattle.franchise.specs.Weights.{weight, whole, one_each, listed}
-use Rattle.franchise.specs.Polls.{table_poll, votes}
 
 -- w n counts what f gives of the first n elements; past the list's end f gives nothing
 module _
@@ -44,8 +43,3 @@ one_vote_each s n = ap (count_by s) (sym (map-id (range_with_len 0 n))) ∙ go n
       let more = sum_by-map-range_with_len_more (λ i. cond (s i) 1 0) (λ (x : ℕ). x) 0 n n (omega arith) in
       let e : suc n ≡ n + 1 = omega arith in
       ap (λ k. count_by s (map (λ (x : ℕ). x) (range_with_len 0 k))) e ∙ more ∙ omega arith
-
--- a table with the votes of a list gives the same poll
-pub table_votes :
-    (vs : List ℕ) (n : ℕ) (table : List ℕ) (t : ℕ) → n ≡ length vs → take n table ≡ vs → table_poll n table t ≡ votes vs t
-table_votes vs n table t e f = λ i. record { size = e i; votes = listed (f i); threshold = t }

@@ -4,7 +4,7 @@ use Rattle.std.proofs.lemmas.Bool.{leb-true, le-leb, cases_Bool, and_parts, and_
 use Rattle.protocol.specs.Sets.{Set, empty, less, all_less, Within}
 use Rattle.protocol.specs.Laws.{Laws, Parts, Growth, Outside, Remains, Others, Shared, Halves}
 use Rattle.franchise.specs.Weights.{weight, whole}
-use Rattle.franchise.specs.Polls.{Poll, Outvoted, heads, facts_of}
+use Rattle.franchise.specs.Polls.{Poll, BelowAThird, heads, facts_of}
 use Rattle.franchise.specs.Arithmetic.{none, cover, meet, find, whole_ones}
 
 -- a member of a set is faulty, or left in it when the faulty leave
@@ -58,7 +58,7 @@ module _ (p : Poll) where
       (λ i l e. elim (cases_Bool (faulty i)) [ inl y ↦ inr y | inr z ↦ inl (not_from_false _ z) ]) in
       omega arith
 
-  module _ (few : Outvoted p) where
+  module _ (few : BelowAThird p) where
     others : Others (facts_of p)
     others faulty x = let r = rest faulty x in (le-leb _ _ (omega arith), le-leb _ _ (omega arith))
 
@@ -101,5 +101,5 @@ module _ (p : Poll) where
     }
 
 -- n processes with one vote each have n votes
-pub heads_outvoted : (n t : ℕ) → 3 * t < n → Outvoted (heads n t)
-heads_outvoted n t few = let e = whole_ones n in omega arith
+pub heads_below : (n t : ℕ) → 3 * t < n → BelowAThird (heads n t)
+heads_below n t few = let e = whole_ones n in omega arith

@@ -1,5 +1,5 @@
 -- A franchise by votes.
-use Rattle.std.specs.Prelude.{ℕ, ◌+◌, ◌-◌, ◌*◌, ◌<◌, Bool, List, length, take, nat_le}
+use Rattle.std.specs.Prelude.{ℕ, ◌+◌, ◌-◌, ◌*◌, ◌<◌, Bool, List, length, nat_le}
 use Rattle.protocol.specs.Sets.{Set}
 use Rattle.protocol.specs.Facts.{Facts}
 use Rattle.franchise.specs.Weights.{weight, whole, one_each, listed}
@@ -19,13 +19,9 @@ heads n t = record { size = n; votes = one_each; threshold = t }
 abbrev pub votes : List ℕ → ℕ → Poll
 votes vs t = record { size = length vs; votes = listed vs; threshold = t }
 
--- as many votes as the front of a table has, for each of n processes
-abbrev pub table_poll : ℕ → List ℕ → ℕ → Poll
-table_poll n table t = record { size = n; votes = listed (take n table); threshold = t }
-
 -- three times the threshold is below the sum of all votes
-abbrev pub Outvoted : Poll → Type 0
-Outvoted p = 3 * p.threshold < whole p.votes p.size
+abbrev pub BelowAThird : Poll → Type 0
+BelowAThird p = 3 * p.threshold < whole p.votes p.size
 
 -- the votes of a set, the sum of all votes, and the threshold
 abbrev pub tally : Poll → Set → Tally

@@ -1,7 +1,7 @@
 //! Franchises by votes: a set is judged by its votes against a threshold.
 ghost use Rattle.std.specs.Prelude.{◌≡◌};
 ghost use Rattle.franchise.specs.Marks.{set_of};
-ghost use Rattle.franchise.specs.Polls.{Poll, Outvoted, tally as tally_of, facts_of};
+ghost use Rattle.franchise.specs.Polls.{Poll, BelowAThird, tally as tally_of, facts_of};
 ghost use Rattle.franchise.specs.Lawful.{laws};
 
 use super::laws::Franchise;
@@ -20,13 +20,13 @@ pub trait Counted {
     fn tally(&self, set: &Members) -> Tally
         ensures { result ≡ tally_of (poll self.now) (set_of set.now) };
 
-    ghost outvoted: { (x : Self) → Outvoted (poll x) };
+    ghost below: { (x : Self) → BelowAThird (poll x) };
 }
 
 impl<C: Counted> Franchise for C {
     ghost facts = { λ x. facts_of (C.poll x) };
 
-    ghost laws = { λ x. laws (C.poll x) (C.outvoted x) };
+    ghost laws = { λ x. laws (C.poll x) (C.below x) };
 
     fn size(&self) -> usize {
         self.processes()

@@ -1,21 +1,21 @@
 //! Heads: one vote for each process.
 ghost use Rattle.std.specs.Prelude.{◌≡◌, ◌*◌, ◌<◌, ◌≤◌};
 ghost use Rattle.protocol.specs.Refusals.{answer, told};
-ghost use Rattle.franchise.specs.Marks.{set_of};
 ghost use Rattle.franchise.specs.Polls.{heads as heads_poll};
 ghost use Rattle.franchise.specs.Refused.{heads_questions, refusal_of};
-ghost use Rattle.franchise.specs.Lawful.{heads_outvoted};
+ghost use Rattle.franchise.specs.Lawful.{heads_below};
 
 use super::counted::Counted;
 use super::fault::FranchiseFault;
 use super::members::Members;
 use super::tally::{Tally, Threshold};
 
-#[derive(Clone, Copy)]
+#[derive(Clone, Copy, PartialEq, Eq, Debug)]
 pub struct Heads {
     size: u8,
     threshold: Threshold,
-    ghost few: { (size ≤ 16) × (3 * threshold < size) },
+    ghost few: { size ≤ 16 },
+    ghost below: { 3 * threshold < size },
 }
 
 impl Heads {
@@ -37,7 +37,7 @@ impl Heads {
 impl Counted for Heads {
     ghost poll = { λ h. heads_poll h.size h.threshold };
 
-    ghost outvoted = { λ h. heads_outvoted h.size h.threshold h.few.1 };
+    ghost below = { λ h. heads_below h.size h.threshold h.below };
 
     fn processes(&self) -> usize {
         usize::from(self.size)

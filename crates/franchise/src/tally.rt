@@ -5,7 +5,7 @@ ghost use Rattle.franchise.specs.Polls.{tolerable as is_tolerable, believed as i
 /// How many votes may be faulty together.
 pub type Threshold = u16;
 
-#[derive(Clone, Copy)]
+#[derive(Clone, Copy, PartialEq, Eq, Debug)]
 pub struct Tally {
     /// the votes of the set
     pub votes: u64,

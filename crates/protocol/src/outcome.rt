@@ -2,7 +2,7 @@
 use super::value::{Value, Values};
 
 /// The rule that a step followed, with the numbers that it tells.
-#[derive(Clone, Copy)]
+#[derive(Clone, Copy, PartialEq, Eq, Debug)]
 pub enum Outcome {
     /// it sent on a value that a believed set of processes sent
     Echo {
@@ -23,7 +23,7 @@ pub enum Outcome {
     Close {
         round: u8,
         values: Values,
-        /// a flag and no `Option`, since the values say already what was decided
+        // A flag and no `Option`, since the values say already what was decided.
         decided: bool,
     },
     /// nothing was due

@@ -2,7 +2,7 @@
 use super::value::{Value, Values};
 
 /// An estimate, or the bin of a round.
-#[derive(Clone, Copy)]
+#[derive(Clone, Copy, PartialEq, Eq, Debug)]
 pub enum Payload {
     Est(Value),
     Aux(Values),

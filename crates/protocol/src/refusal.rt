@@ -17,7 +17,7 @@ pub enum Layer {
 /// What a call answers that is refused. It is carried up unchanged.
 #[derive(Clone, Copy, PartialEq, Eq, Debug)]
 pub struct Refusal {
-    /// a number and no enum, since the rules number the questions, and this is what is printed
+    // A number and no enum, since the rules number the questions, and this is what is printed.
     pub number: u8,
     pub layer: Layer,
 }

@@ -1,15 +1,11 @@
 -- What a roll says.
-use Rattle.std.specs.Prelude.{ℕ, ◌^◌, ◌≤◌, bit_or}
+use Rattle.std.specs.Prelude.{ℕ, ◌^◌, bit_or}
 
 -- how many processes and rounds there are, and the faulty processes as bits
 pub record Terms : Type 0 where
   pub size : ℕ
   pub rounds : ℕ
   pub faulty : ℕ
-
--- there are from 1 to 16 processes, and from 1 to 16 rounds
-abbrev pub Ranges : Terms → Type 0
-Ranges r = (1 ≤ r.size) × (r.size ≤ 16) × (1 ≤ r.rounds) × (r.rounds ≤ 16)
 
 -- no process is named
 abbrev pub opened : ℕ → ℕ → Terms

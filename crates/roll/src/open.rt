@@ -3,7 +3,7 @@ ghost use Rattle.std.specs.Prelude.{◌≡◌};
 ghost use Rattle.protocol.specs.Refusals.{answer, leaves, told};
 ghost use Rattle.protocol.specs.Sets.{bits, joined};
 ghost use Rattle.roll.specs.Refused.{open_questions, name_questions, refusal_of};
-ghost use Rattle.roll.specs.Views.{Ranges, opened, named};
+ghost use Rattle.roll.specs.Views.{opened, named};
 
 use super::fault::RollFault;
 use super::rolls::{OpenRoll, Roll, SealedRoll};
@@ -33,7 +33,6 @@ impl OpenRoll {
         ensures answer { told (λ x. x) refusal_of result ≡ answer (name_questions self.old process) tt }
         ensures after { self.new ≡ leaves (name_questions self.old process) self.old (named self.old process) }
         ensures members { bits self.new.faulty ≡ leaves (name_questions self.old process) (bits self.old.faulty) (joined (bits self.old.faulty) process) }
-        ensures ranges { Ranges self.old }
     {
         if process >= self.size {
             return Err(RollFault::Process);
@@ -44,8 +43,7 @@ impl OpenRoll {
 
     /// No process can be named any more.
     pub fn seal(self) -> SealedRoll
-        ensures value { result ≡ self }
-        ensures ranges { Ranges result }
+        ensures { result ≡ self }
     {
         let Roll {
             size,

@@ -1,12 +1,15 @@
-//! The two states of a roll. In neither can it be copied or let go: an open one is sealed, and a sealed one is spent.
+//! Rolls, and their two states. In neither can a roll be copied or let go: an open one is sealed, and a sealed one is spent.
+ghost use Rattle.std.specs.Prelude.{◌≡◌, ◌≤◌};
+
 use std::marker::{Model, PhantomData};
 
 /// Faulty processes are being named.
 pub struct Open;
 
-/// No process can be named any more, and one run is begun.
+/// No process can be named any more.
 pub struct Sealed;
 
+/// How many processes and rounds a run has, and which processes are faulty.
 pub struct Roll<State> {
     pub(crate) size: u8,
     pub(crate) rounds: u8,
@@ -30,4 +33,22 @@ impl<State> Model for Roll<State> {
     ghost view = { λ r. record { size = r.size; rounds = r.rounds; faulty = r.faulty } };
 
     ghost invariant = { λ r. (1 ≤ r.size) × (r.size ≤ 16) × (1 ≤ r.rounds) × (r.rounds ≤ 16) };
+}
+
+impl<State> Roll<State> {
+    /// How many processes there are.
+    pub fn size(&self) -> u8
+        ensures value { result ≡ self.now.size }
+        ensures range { (1 ≤ result) × (result ≤ 16) }
+    {
+        self.size
+    }
+
+    /// How many rounds there are.
+    pub fn rounds(&self) -> u8
+        ensures value { result ≡ self.now.rounds }
+        ensures range { (1 ≤ result) × (result ≤ 16) }
+    {
+        self.rounds
+    }
 }

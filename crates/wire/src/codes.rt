@@ -19,7 +19,8 @@ impl From<MessageKind> for u16 {
     }
 }
 
-// 0 is EST, any other number AUX.
+/// The kind with a number: EST with 0, AUX with any other.
+// By name and no `TryFrom`, since every number has a kind.
 fn kind_with(number: u16) -> MessageKind
     ensures { result ≡ kind_with number }
 {
@@ -31,8 +32,8 @@ fn kind_with(number: u16) -> MessageKind
 }
 
 impl Message {
-    // A name, since `u16::from` would not say which number it gives.
     /// The number that the message is written as.
+    // By name, since the rules call this number the code.
     pub fn code(self) -> u16
         ensures { result ≡ code_of self }
     {
@@ -43,7 +44,6 @@ impl Message {
             + u16::from(self.content)
     }
 
-    // A name too, and no `TryFrom`, since every number has a message.
     /// The message with a code. A number from 32,768 on counts from 0 again.
     // By name and no `TryFrom`, since every number has a message.
     pub fn with_code(code: u16) -> Message

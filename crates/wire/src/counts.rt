@@ -16,7 +16,8 @@ pub struct CountWire<'a> {
     places: u16,
 }
 
-// The sum of some counts. It fits 32 bits, and in 64 it takes twice as long.
+/// The sum of some counts.
+// In 32 bits, which it fits: in 64 it takes twice as long.
 fn total(counts: &[u16]) -> u32
     requires { length counts.now ≤ 32768 }
     ensures { result ≡ waiting_below (count_in counts.now) (length counts.now) }
@@ -24,7 +25,7 @@ fn total(counts: &[u16]) -> u32
     counts.iter().map(|&count| u32::from(count)).sum()
 }
 
-// The smallest waiting code that is at least `from`.
+/// The smallest waiting code that is at least `from`.
 fn smallest_from(counts: &[u16], from: usize) -> Option<u16>
     requires { (length counts.now ≡ 32768) × (from < 32768) }
     ensures { result ≡ smallest (count_in counts.now) (32768 - from) from }
@@ -47,14 +48,14 @@ impl<'a> CountWire<'a> {
         CountWire { counts, places }
     }
 
-    // Whether there is a count for each code.
+    /// Whether there is a count for each code.
     fn whole(&self) -> bool
         ensures { result ≡ (length self.now.counts.now == 32768) }
     {
         self.counts.len() == usize::from(CODES)
     }
 
-    // The smallest waiting code that is at least k mod 32,768, or the smallest of all.
+    /// The smallest waiting code that is at least k mod 32,768, or the smallest of all.
     fn chosen(&self, k: u16) -> Option<u16>
         ensures { result ≡ chosen_code (counts_of self.now) k }
     {

@@ -14,7 +14,7 @@ pub enum WireFault {
     Empty,
 }
 
-/// Its number and the layer where it arose.
+/// The number of the fault, and the layer where it arose.
 impl From<WireFault> for Refusal {
     ghost from_gives = { λ f r. r ≡ refusal_of f };
 

@@ -29,8 +29,8 @@ pub trait Wire {
         ensures answer { told (λ x. x) refusal_of result ≡ answer (send_questions code (free_places kind self.old)) tt }
         ensures after { self.new ≡ leaves (send_questions code (free_places kind self.old)) self.old (kind.send code self.old) };
 
-    // Each kind asks for itself whether a copy waits: a count wire learns it from its search, far faster than from the sum.
     /// Removes one waiting copy, chosen by a number, and answers its code.
+    // Each kind asks for itself whether a copy waits: a count wire learns it from its search, far faster than from the sum.
     fn take(&mut self, k: u16) -> Result<u16, WireFault>
         ensures answer { told (λ x. x) refusal_of result ≡ answer (take_questions (all_waiting (kind.copies self.old))) (kind.pick self.old k) }
         ensures after { self.new ≡ leaves (take_questions (all_waiting (kind.copies self.old))) self.old (kind.rest self.old k) };

@@ -16,6 +16,7 @@ pub struct Message {
     pub kind: MessageKind,
     /// from 1 on
     pub round: u8,
+    // A number, since every code has a message, also where its content means nothing.
     pub content: u8,
     ghost ranges: { ((sender < 16) × (receiver < 16)) × ((1 ≤ round) × (round ≤ 16)) × (content < 4) },
 }
