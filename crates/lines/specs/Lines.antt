@@ -3,7 +3,6 @@ use Rattle.std.specs.Prelude.{ℕ, List, [], ◌∷◌, ◌++◌, Ok, Err, codes
 use Rattle.std.proofs.Math.Utf8.{encode}
 use Rattle.sheet.specs.declared.fault.PlacedFault.{PlacedFault}
 use Rattle.sheet.specs.Faults.{refusal_of}
-use Rattle.sheet.specs.Kinds.{letter_of}
 use Rattle.protocol.specs.Refusals.{refusal_text}
 use Rattle.lines.specs.declared.line.Line.{Line}
 use Rattle.lines.specs.declared.line.Line.TheVariants.{Done, Fault, End}
@@ -19,7 +18,7 @@ either_lines (Err e) ls = fault_line e ∷ []
 
 -- one line, without its end
 abbrev pub line_text : Line → List ℕ
-line_text (Done k p) = encode (letter_of k) ++ (codes " " ++ (decimal p ++ codes " ok"))
+line_text (Done k p) = encode k ++ (codes " " ++ (decimal p ++ codes " ok"))
 line_text (Fault p r) = codes "fault " ++ (decimal p ++ (codes " " ++ refusal_text r))
 line_text (End n) = codes "end " ++ decimal n
 

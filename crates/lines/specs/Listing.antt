@@ -7,7 +7,6 @@ use Rattle.lines.specs.declared.line.Line.{Line}
 use Rattle.lines.specs.declared.line.Line.TheVariants.{Done, Fault, End}
 use Rattle.sheet.specs.Bytes.{byte}
 use Rattle.sheet.specs.Headers.{header_at, header_questions}
-use Rattle.sheet.specs.declared.kind.Kind.{Kind}
 use Rattle.sheet.specs.Kinds.{kind_of}
 use Rattle.sheet.specs.Entries.{entry_questions, end_of}
 
@@ -30,11 +29,6 @@ admitted bs ls =
 abbrev pub later : List ℕ → ℕ → List Line
 later bs p = cond (nat_le (length bs) p) (End (length bs) ∷ []) (unless p (entry_questions bs p) [])
 
--- the line of an entry at p that was carried out, and those that follow
-abbrev pub done : ℕ → Option Kind → List Line → List Line
-done p None ls = ls
-done p (Some k) ls = Done k p ∷ ls
-
 -- a good header has its line
 abbrev pub listing : List ℕ → List Line
-listing bs = admitted bs (done 0 (kind_of (byte bs 0)) (later bs (end_of 0 (kind_of (byte bs 0)))))
+listing bs = admitted bs (Done (byte bs 0) 0 ∷ later bs (end_of 0 (kind_of (byte bs 0))))

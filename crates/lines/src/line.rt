@@ -4,14 +4,14 @@ ghost use Rattle.lines.specs.Lines.{fault_line, line_text, lines_text};
 
 use protocol::refusal::Refusal;
 use sheet::fault::PlacedFault;
-use sheet::kind::Kind;
 use std::alloc::{AllocError, Global};
 use std::fmt;
 
 #[derive(Clone, Copy, PartialEq, Eq, Debug)]
 pub enum Line {
     /// an entry that was carried out and has nothing more to tell
-    Done { kind: Kind, place: usize },
+    // A letter and no kind, so that a line tells what stands in the sheet.
+    Done { letter: char, place: usize },
     /// a refusal that ends the listing
     Fault { place: usize, refusal: Refusal },
     /// the sheet's end
@@ -23,7 +23,7 @@ impl fmt::Display for Line {
 
     fn fmt<W: fmt::Write>(&self, f: &mut fmt::Formatter<W>) -> fmt::Result {
         match self {
-            Line::Done { kind, place } => write!(f, "{kind} {place} ok"),
+            Line::Done { letter, place } => write!(f, "{letter} {place} ok"),
             Line::Fault { place, refusal } => write!(f, "fault {place} {refusal}"),
             Line::End { length } => write!(f, "end {length}"),
         }
@@ -47,7 +47,7 @@ pub fn text(heap: Global, lines: &[Line]) -> Result<String, AllocError>
     ensures { IfOk result (λ s. string_bytes s ≡ lines_text lines.now) }
 {
     let mut out = String::new(heap);
-    // A `for`: of what a closure writes to the text, nothing would be known after it.
+    // A `for` counts no index, and a closure would have to write to what it captures.
     for line in lines {
         writeln!(out, "{line}")?;
     }

@@ -31,7 +31,8 @@ fn lines_of(heap: Global, sheet: &[u8]) -> Result<Vec<Line>, AllocError>
     match admit(sheet) {
         Err(fault) => Ok(vec![in heap; Line::from(fault)]?),
         Ok(kind) => {
-            let mut lines = vec![in heap; Line::Done { kind, place: 0 }]?;
+            let letter = Entry::at(sheet, 0).letter();
+            let mut lines = vec![in heap; Line::Done { letter, place: 0 }]?;
             if let Some(line) = line_at(sheet, 1 + kind.body_length()) {
                 lines.push(line)?;
             }

@@ -1,5 +1,5 @@
 -- The header of a sheet, and what is asked of it.
-use Rattle.std.specs.Prelude.{ℕ, zero, suc, ◌+◌, Bool, true, cond, not, ◌&&◌, ◌||◌, ◌==◌, List, [], ◌∷◌, ◌++◌, take, Some, None, is_some, Option, nat_lt}
+use Rattle.std.specs.Prelude.{ℕ, zero, suc, ◌+◌, Bool, true, cond, not, ◌&&◌, ◌||◌, List, [], ◌∷◌, ◌++◌, take, Some, is_ok, Option, nat_lt}
 use Rattle.protocol.specs.declared.refusal.Layer.TheVariants as layer
 use Rattle.protocol.specs.Refusals.{Question, ask}
 use Rattle.protocol.specs.Sets.{Set, bits}
@@ -10,15 +10,10 @@ use Rattle.roll.specs.Views.{Terms}
 use Rattle.sheet.specs.declared.header.Ballot.{Ballot}
 use Rattle.sheet.specs.declared.header.Ballot.TheVariants as ballot
 use Rattle.sheet.specs.declared.header.Header.{Header}
-use Rattle.sheet.specs.declared.header.WireKind.{WireKind}
-use Rattle.sheet.specs.declared.header.WireKind.TheVariants.{Bag, Counts}
 use Rattle.sheet.specs.Bytes.{byte, word, words}
 use Rattle.sheet.specs.declared.kind.Kind.{Kind}
 use Rattle.sheet.specs.Kinds.{is, kind_of}
-
--- the kind of wire that a byte names
-abbrev pub wire_kind : ℕ → Option WireKind
-wire_kind b = cond (b == 0) (Some Bag) (cond (b == 1) (Some Counts) None)
+use Rattle.sheet.specs.WireKinds.{wire_kind}
 
 -- what a header says with the ballot b, where its other fields stand from the offset k on
 abbrev pub header_with : List ℕ → Ballot → ℕ → Header
@@ -80,7 +75,7 @@ franchise_questions n b s = ballot_questions n b ++ (ask 16 layer.Run ((facts_of
 -- refusals 25; 11, 12, 2; 13, 14, 16: the kind of wire, the roll, and the franchise, in which the faulty are tolerable
 abbrev pub header_questions : Header → List Question
 header_questions h =
-    ask 25 layer.Sheet (is_some h.wire) ∷ roll_questions h ++ franchise_questions h.size h.ballot (bits h.faulty)
+    ask 25 layer.Sheet (is_ok h.wire) ∷ roll_questions h ++ franchise_questions h.size h.ballot (bits h.faulty)
 
 -- the roll that a header asks for
 abbrev pub roll_at : Header → Terms

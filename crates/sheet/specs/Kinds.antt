@@ -4,13 +4,9 @@ use Prim.Native.String.{String}
 use Rattle.sheet.specs.declared.kind.Kind.{Kind}
 use Rattle.sheet.specs.declared.kind.Kind.TheVariants.{Heads, Votes, Propose, Step, Plant, Deliver, Standing}
 
--- the letter as a character
-abbrev pub code : String → ℕ
-code letter = slice_index (codes letter) 0
-
 -- the character k is the letter
 abbrev pub is : String → ℕ → Bool
-is letter k = k == code letter
+is letter k = k == slice_index (codes letter) 0
 
 -- the kind that a letter stands for
 abbrev pub kind_of : ℕ → Option Kind
@@ -22,16 +18,6 @@ kind_of k =
     (cond (is "F" k) (Some Plant)
     (cond (is "D" k) (Some Deliver)
     (cond (is "Q" k) (Some Standing) None))))))
-
--- the letter that stands for a kind
-abbrev pub letter_of : Kind → ℕ
-letter_of Heads = code "H"
-letter_of Votes = code "W"
-letter_of Propose = code "P"
-letter_of Step = code "S"
-letter_of Plant = code "F"
-letter_of Deliver = code "D"
-letter_of Standing = code "Q"
 
 -- how many bytes follow the letter
 abbrev pub body_length : Kind → ℕ

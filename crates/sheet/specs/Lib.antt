@@ -1,4 +1,5 @@
 pub mod Kinds
+pub mod WireKinds
 pub mod Bytes
 pub mod Entries
 pub mod Headers

@@ -34,6 +34,13 @@ impl<'a> Entry<'a> {
         self.sheet.get(place).copied().unwrap_or(0)
     }
 
+    /// The letter that the entry begins with.
+    pub fn letter(&self) -> char
+        ensures { result ≡ byte self.now.sheet.now self.now.place }
+    {
+        char::from(self.byte(0))
+    }
+
     /// The two bytes from an offset on, the high one first.
     pub(crate) fn word(&self, offset: usize) -> u16
         requires { offset < 2 ^ 32 }
@@ -46,7 +53,7 @@ impl<'a> Entry<'a> {
     pub fn kind(&self) -> Result<Kind, SheetFault>
         ensures { told Some refusal_of result ≡ answer (entry_questions self.now.sheet.now self.now.place) (kind_of (byte self.now.sheet.now self.now.place)) }
     {
-        let kind = Kind::try_from(char::from(self.byte(0)));
+        let kind = Kind::try_from(self.letter());
         let header = kind.is_ok_and(Kind::is_header);
         if self.place == 0 && !header {
             return Err(SheetFault::FirstKind);

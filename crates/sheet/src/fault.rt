@@ -1,8 +1,9 @@
 //! Why a sheet is refused.
 ghost use Rattle.std.specs.Prelude.{◌≡◌};
 ghost use Rattle.sheet.specs.Faults.{refusal_of, at_place};
-ghost use Rattle.sheet.specs.declared.fault.SheetFault.TheVariants.{Roll as RollCase, Franchise as FranchiseCase};
+ghost use Rattle.sheet.specs.declared.fault.SheetFault.TheVariants.{Roll as RollCase, Franchise as FranchiseCase, WireByte as WireCase};
 
+use super::wire_kind::UnknownWire;
 use franchise::fault::FranchiseFault;
 use protocol::refusal::{Layer, Refusal};
 use roll::fault::RollFault;
@@ -69,6 +70,14 @@ impl From<RollFault> for SheetFault {
 
     fn from(fault: RollFault) -> SheetFault {
         SheetFault::Roll(fault)
+    }
+}
+
+impl From<UnknownWire> for SheetFault {
+    ghost from_gives = { λ _ r. r ≡ WireCase };
+
+    fn from(_: UnknownWire) -> SheetFault {
+        SheetFault::WireByte
     }
 }
 

@@ -1,45 +1,30 @@
 //! The header: the first entry of a sheet.
-ghost use Rattle.std.specs.Prelude.{◌≡◌, ◌+◌, ◌^◌, ◌<◌, ok_or};
+ghost use Rattle.std.specs.Prelude.{◌≡◌, ◌+◌};
 ghost use Rattle.protocol.specs.Refusals.{answer, told};
-ghost use Rattle.sheet.specs.declared.fault.SheetFault.TheVariants.{WireByte};
 ghost use Rattle.sheet.specs.Bytes.{words};
 ghost use Rattle.sheet.specs.Faults.{refusal_of};
-ghost use Rattle.sheet.specs.Headers.{wire_kind, first_entry, known_kind, header_with};
+ghost use Rattle.sheet.specs.Headers.{first_entry, known_kind};
 ghost use Rattle.sheet.specs.Entries.{entry_questions};
 
 use super::entry::Entry;
 use super::fault::SheetFault;
 use super::kind::Kind;
+use super::wire_kind::{UnknownWire, WireKind};
+use franchise::tally::Threshold;
+use franchise::votes::Vote;
 use std::array;
-
-/// What carries the messages of a run.
-#[derive(Clone, Copy, PartialEq, Eq, Debug)]
-pub enum WireKind {
-    Bag,
-    Counts,
-}
-
-/// The kind of wire that a byte names.
-impl TryFrom<u8> for WireKind {
-    type Error = SheetFault;
-
-    ghost try_from_gives = { λ byte r. r ≡ ok_or (wire_kind byte) WireByte };
-
-    fn try_from(byte: u8) -> Result<WireKind, SheetFault> {
-        match byte {
-            0 => Ok(WireKind::Bag),
-            1 => Ok(WireKind::Counts),
-            _ => Err(SheetFault::WireByte),
-        }
-    }
-}
 
 /// How the processes vote.
 #[derive(Clone, Copy, PartialEq, Eq, Debug)]
 pub enum Ballot {
-    Heads { threshold: u8 },
+    Heads {
+        threshold: u8,
+    },
     /// the votes of processes that there are not are skipped
-    Votes { threshold: u16, votes: [u16; 16] },
+    Votes {
+        threshold: Threshold,
+        votes: [Vote; 16],
+    },
 }
 
 #[derive(Clone, Copy, PartialEq, Eq, Debug)]
@@ -49,8 +34,8 @@ pub struct Header {
     pub rounds: u8,
     /// the faulty processes as bits
     pub faulty: u16,
-    /// none where the byte names no kind
-    pub wire: Option<WireKind>,
+    /// the kind of wire, or the byte that names none
+    pub wire: Result<WireKind, UnknownWire>,
     pub ballot: Ballot,
 }
 
@@ -61,43 +46,33 @@ impl Header {
     {
         let entry = Entry::at(sheet, 0);
         let kind = entry.kind()?;
-        match kind {
+        let (ballot, rest) = match kind {
             Kind::Heads => {
                 let threshold = entry.byte(2);
-                Ok((kind, Header::with(sheet, Ballot::Heads { threshold }, 3)))
+                (Ballot::Heads { threshold }, 3)
             }
             Kind::Votes => {
                 let threshold = entry.word(2);
-                let votes = votes_at(sheet);
-                Ok((
-                    kind,
-                    Header::with(sheet, Ballot::Votes { threshold, votes }, 4),
-                ))
+                let votes = votes_of(&entry);
+                (Ballot::Votes { threshold, votes }, 4)
             }
-            _ => Err(SheetFault::FirstKind),
-        }
-    }
-
-    /// The header with this ballot, whose other fields stand from an offset on.
-    fn with(sheet: &[u8], ballot: Ballot, rest: usize) -> Header
-        requires { rest < 2 ^ 16 }
-        ensures { result ≡ header_with sheet.now ballot rest }
-    {
-        let entry = Entry::at(sheet, 0);
-        Header {
+            // no other kind may stand there
+            _ => return Err(SheetFault::FirstKind),
+        };
+        let header = Header {
             size: entry.byte(1),
             rounds: entry.byte(rest),
             faulty: entry.word(rest + 1),
-            wire: WireKind::try_from(entry.byte(rest + 3)).ok(),
+            wire: WireKind::try_from(entry.byte(rest + 3)),
             ballot,
-        }
+        };
+        Ok((kind, header))
     }
 }
 
 /// The votes of sixteen processes.
-fn votes_at(sheet: &[u8]) -> [u16; 16]
-    ensures { result ≡ words sheet.now 8 16 }
+fn votes_of(header: &Entry) -> [Vote; 16]
+    ensures { result ≡ words header.now.sheet.now (header.now.place + 8) 16 }
 {
-    let entry = Entry::at(sheet, 0);
-    array::from_fn(|i| entry.word(8 + 2 * i))
+    array::from_fn(|i| header.word(8 + 2 * i))
 }

@@ -3,7 +3,8 @@ ghost use Rattle.std.specs.Prelude.{◌≡◌, length, take, if◌then◌else◌
 ghost use Rattle.protocol.specs.Refusals.{answer, told};
 ghost use Rattle.protocol.specs.Sets.{bits};
 ghost use Rattle.franchise.specs.Marks.{set_of};
-ghost use Rattle.franchise.specs.Polls.{votes as votes_poll, table_poll};
+ghost use Rattle.franchise.specs.Polls.{votes as votes_poll};
+ghost use Rattle.franchise.specs.Tables.{table_poll};
 ghost use Rattle.franchise.specs.Refused.{votes_questions, refusal_of as franchise_refusal_of};
 ghost use Rattle.roll.specs.Refused.{refusal_of as roll_refusal_of};
 ghost use Rattle.sheet.specs.declared.fault.SheetFault.TheVariants.{Untolerable};
@@ -26,9 +27,7 @@ impl Header {
     pub fn judge(&self) -> Result<(), SheetFault>
         ensures { told (λ x. x) refusal_of result ≡ answer (header_questions self.now) tt }
     {
-        if self.wire.is_none() {
-            return Err(SheetFault::WireByte);
-        }
+        let _kind = self.wire?;
         let roll = self.roll()?;
         let judged = self.ballot.judge(&roll);
         let _ = roll.into_numbers();
@@ -62,7 +61,7 @@ impl Ballot {
         let faulty = roll.faulty();
         match *self {
             Ballot::Heads { threshold } => {
-                tolerates(&Heads::new(size, u16::from(threshold))?, &faulty)
+                tolerates(&Heads::new(size, Threshold::from(threshold))?, &faulty)
             }
             Ballot::Votes { threshold, votes } => {
                 tolerates(&first_votes(&votes, roll, threshold)?, &faulty)
@@ -78,9 +77,9 @@ fn first_votes(
     threshold: Threshold,
 ) -> Result<Votes, FranchiseFault>
     ensures length { length (take roll.now.size votes.now) ≡ roll.now.size }
-    ensures answer { told (λ v. table_poll v.table.size v.table.votes v.threshold) franchise_refusal_of result ≡ answer (votes_questions (take roll.now.size votes.now) threshold) (votes_poll (take roll.now.size votes.now) threshold) }
+    ensures answer { told (λ v. table_poll v.table v.threshold) franchise_refusal_of result ≡ answer (votes_questions (take roll.now.size votes.now) threshold) (votes_poll (take roll.now.size votes.now) threshold) }
 {
-    Votes::new(&votes[0..usize::from(roll.size())], threshold)
+    Votes::new(&votes[..usize::from(roll.size())], threshold)
 }
 
 /// Names each process whose bit is set, on a roll that names none.

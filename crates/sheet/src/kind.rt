@@ -1,11 +1,9 @@
 //! The kinds of entries that a sheet is made of.
-ghost use Rattle.std.specs.Prelude.{◌≡◌, ok_or, Some};
-ghost use Rattle.std.proofs.Math.Utf8.{encode};
+ghost use Rattle.std.specs.Prelude.{◌≡◌, ok_or};
 ghost use Rattle.sheet.specs.declared.fault.SheetFault.TheVariants.{UnknownKind};
-ghost use Rattle.sheet.specs.Kinds.{kind_of, letter_of, body_length, is_header};
+ghost use Rattle.sheet.specs.Kinds.{kind_of, body_length, is_header};
 
 use super::fault::SheetFault;
-use std::fmt;
 
 #[derive(Clone, Copy, PartialEq, Eq, Debug)]
 pub enum Kind {
@@ -38,32 +36,7 @@ impl TryFrom<char> for Kind {
     }
 }
 
-/// The letter of the kind.
-impl fmt::Display for Kind {
-    ghost output = { λ kind. Some (encode (letter_of kind)) };
-
-    fn fmt<W: fmt::Write>(&self, f: &mut fmt::Formatter<W>) -> fmt::Result {
-        f.write_char(self.letter())
-    }
-}
-
 impl Kind {
-    /// The letter that stands for the kind.
-    pub fn letter(self) -> char
-        ensures value { result ≡ letter_of self }
-        ensures back { kind_of result ≡ Some self }
-    {
-        match self {
-            Kind::Heads => 'H',
-            Kind::Votes => 'W',
-            Kind::Propose => 'P',
-            Kind::Step => 'S',
-            Kind::Plant => 'F',
-            Kind::Deliver => 'D',
-            Kind::Standing => 'Q',
-        }
-    }
-
     /// How many bytes follow the letter.
     pub fn body_length(self) -> usize
         ensures { result ≡ body_length self }

@@ -6,3 +6,4 @@ pub mod fault;
 pub mod header;
 pub mod judge;
 pub mod kind;
+pub mod wire_kind;

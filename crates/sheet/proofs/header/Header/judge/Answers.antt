@@ -1,4 +1,4 @@
-use Rattle.std.proofs.Common.{◌≡◌, true, is_some, ◌++◌, Ok, Result, sym, ap, ◌∙◌, rules}
+use Rattle.std.proofs.Common.{◌≡◌, true, is_ok, ◌++◌, Ok, Result, sym, ap, ◌∙◌, rules}
 use Rattle.protocol.specs.declared.refusal.Refusal.{Refusal}
 use Rattle.protocol.specs.Refusals.{answer, first_no, granted}
 use Rattle.protocol.specs.Sets.{bits}
@@ -10,7 +10,7 @@ use Rattle.sheet.proofs.header.Header.judge.Goals as goal
 
 -- once the roll is made, the franchise's questions are left
 rest_judged :
-    (h : Header) (r : Terms) (a : Result (Unit {0}) Refusal) → is_some h.wire ≡ true → Ok r ≡ answer (roll_questions h) (roll_at h)
+    (h : Header) (r : Terms) (a : Result (Unit {0}) Refusal) → is_ok h.wire ≡ true → Ok r ≡ answer (roll_questions h) (roll_at h)
     → a ≡ answer (franchise_questions r.size h.ballot (bits r.faulty)) (tt {0}) → a ≡ answer (header_questions h) (tt {0})
 rest_judged h r a wire rolled answered =
     let p = granted_none (first_no (roll_questions h)) (roll_at h) r rolled in
