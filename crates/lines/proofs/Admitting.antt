@@ -8,18 +8,17 @@ use Rattle.sheet.specs.declared.kind.Kind.{Kind}
 use Rattle.lines.specs.declared.line.Line.{Line}
 use Rattle.lines.specs.declared.line.Line.TheVariants.{Fault}
 use Rattle.sheet.specs.Bytes.{byte}
-use Rattle.sheet.specs.Headers.{header_at, header_questions, first_entry, known_kind}
+use Rattle.sheet.specs.Headers.{header_at, header_questions, first_entry, known_kind, kind_by}
 use Rattle.sheet.specs.Kinds.{kind_of}
 use Rattle.lines.specs.Listing.{unless, faulted, admitted, later}
 use Rattle.sheet.specs.Entries.{entry_questions}
 
--- the sheet begins with the header h of the kind k
-module _
-    (bs : List ℕ) (k : Kind) (h : Header) (read : Ok (known_kind (k, h)) ≡ answer (entry_questions bs 0) (first_entry bs)) where
-  asked : (first_no (entry_questions bs 0) ≡ None) × (known_kind (k, h) ≡ first_entry bs)
-  asked = granted_none (first_no (entry_questions bs 0)) (first_entry bs) (known_kind (k, h)) read
+-- the sheet begins with the header h
+module _ (bs : List ℕ) (h : Header) (read : Ok (known_kind h) ≡ answer (entry_questions bs 0) (first_entry bs)) where
+  asked : (first_no (entry_questions bs 0) ≡ None) × (known_kind h ≡ first_entry bs)
+  asked = granted_none (first_no (entry_questions bs 0)) (first_entry bs) (known_kind h) read
 
-  pub kind_is : kind_of (byte bs 0) ≡ Some k
+  pub kind_is : kind_of (byte bs 0) ≡ Some (kind_by h.ballot)
   kind_is = sym (ap (λ (x : Option Kind × Header). x.0) asked.1)
 
   judged :

@@ -52,9 +52,9 @@ fn admit(sheet: &[u8]) -> Result<Kind, PlacedFault>
             fault: SheetFault::TooLong,
         });
     }
-    let (kind, header) = placed(0, Header::read(sheet))?;
+    let header = placed(0, Header::read(sheet))?;
     placed(0, header.judge())?;
-    Ok(kind)
+    Ok(header.kind())
 }
 
 /// The line at a place after the header, if one is known there.

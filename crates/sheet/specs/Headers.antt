@@ -12,6 +12,7 @@ use Rattle.sheet.specs.declared.header.Ballot.TheVariants as ballot
 use Rattle.sheet.specs.declared.header.Header.{Header}
 use Rattle.sheet.specs.Bytes.{byte, word, words}
 use Rattle.sheet.specs.declared.kind.Kind.{Kind}
+use Rattle.sheet.specs.declared.kind.Kind.TheVariants as kind
 use Rattle.sheet.specs.Kinds.{is, kind_of}
 use Rattle.sheet.specs.WireKinds.{wire_kind}
 
@@ -41,9 +42,14 @@ header_at bs = cond (is "H" (byte bs 0)) (heads_header bs) (votes_header bs)
 abbrev pub first_entry : List ℕ → Option Kind × Header
 first_entry bs = (kind_of (byte bs 0), header_at bs)
 
--- the same, where the kind is known
-abbrev pub known_kind : Kind × Header → Option Kind × Header
-known_kind x = (Some x.0, x.1)
+-- the kind of a header, by how its processes vote
+abbrev pub kind_by : Ballot → Kind
+kind_by (ballot.Heads t) = kind.Heads
+kind_by (ballot.Votes t vs) = kind.Votes
+
+-- a header with its kind
+abbrev pub known_kind : Header → Option Kind × Header
+known_kind h = (Some (kind_by h.ballot), h)
 
 -- the votes of n processes; those of others are skipped
 abbrev pub poll_of : ℕ → Ballot → Poll

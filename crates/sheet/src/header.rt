@@ -3,7 +3,7 @@ ghost use Rattle.std.specs.Prelude.{◌≡◌, ◌+◌};
 ghost use Rattle.protocol.specs.Refusals.{answer, told};
 ghost use Rattle.sheet.specs.Bytes.{words};
 ghost use Rattle.sheet.specs.Faults.{refusal_of};
-ghost use Rattle.sheet.specs.Headers.{first_entry, known_kind};
+ghost use Rattle.sheet.specs.Headers.{first_entry, known_kind, kind_by};
 ghost use Rattle.sheet.specs.Entries.{entry_questions};
 
 use super::entry::Entry;
@@ -40,13 +40,12 @@ pub struct Header {
 }
 
 impl Header {
-    /// The header of a sheet with its kind, if the sheet begins with a whole one.
-    pub fn read(sheet: &[u8]) -> Result<(Kind, Header), SheetFault>
+    /// The header of a sheet, if the sheet begins with a whole one.
+    pub fn read(sheet: &[u8]) -> Result<Header, SheetFault>
         ensures { told known_kind refusal_of result ≡ answer (entry_questions sheet.now 0) (first_entry sheet.now) }
     {
         let entry = Entry::at(sheet, 0);
-        let kind = entry.kind()?;
-        let (ballot, rest) = match kind {
+        let (ballot, rest) = match entry.kind()? {
             Kind::Heads => {
                 let threshold = entry.byte(2);
                 (Ballot::Heads { threshold }, 3)
@@ -59,14 +58,23 @@ impl Header {
             // no other kind may stand there
             _ => return Err(SheetFault::FirstKind),
         };
-        let header = Header {
+        Ok(Header {
             size: entry.byte(1),
             rounds: entry.byte(rest),
             faulty: entry.word(rest + 1),
             wire: WireKind::try_from(entry.byte(rest + 3)),
             ballot,
-        };
-        Ok((kind, header))
+        })
+    }
+
+    /// The kind of the entry that the header is.
+    pub fn kind(&self) -> Kind
+        ensures { result ≡ kind_by self.now.ballot }
+    {
+        match self.ballot {
+            Ballot::Heads { .. } => Kind::Heads,
+            Ballot::Votes { .. } => Kind::Votes,
+        }
     }
 }
 
