@@ -54,7 +54,8 @@ impl Table {
         ensures { result ≡ weight (listed (votes_in self.now)) (set_of set.now) self.now.size }
     {
         let mut sum = 0;
-        // The project asks for a loop over the votes with their index here; the index is below 16.
+        // The project asks for a loop over the votes with their index here. The index is below 16,
+        // so `try_from` would have an error arm that never comes.
         for (process, vote) in self.votes[..self.size()].iter().enumerate() {
             if set.contains(process as u8) {
                 sum += u64::from(*vote);

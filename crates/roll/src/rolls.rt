@@ -24,6 +24,7 @@ pub type OpenRoll = Roll<Open>;
 /// A roll from which one run is begun.
 pub type SealedRoll = Roll<Sealed>;
 
+// Callers see the value alone, so each call that answers its numbers says that they are in range.
 impl<State> Model for Roll<State> {
     ghost use Rattle.std.specs.Prelude.{◌≤◌};
     ghost use Rattle.roll.specs.Views.{Terms};

@@ -1,5 +1,5 @@
 //! What is done with a sealed roll.
-ghost use Rattle.std.specs.Prelude.{◌≡◌};
+ghost use Rattle.std.specs.Prelude.{◌≡◌, ◌≤◌};
 ghost use Rattle.protocol.specs.Sets.{bits};
 ghost use Rattle.franchise.specs.Marks.{set_of};
 
@@ -18,7 +18,8 @@ impl SealedRoll {
     /// Ends a roll from which no run is begun, and answers its three numbers.
     // By name, since `from` would not say that the roll ends.
     pub fn into_numbers(self) -> (u8, u8, u16)
-        ensures { result ≡ (self.size, self.rounds, self.faulty) }
+        ensures value { result ≡ (self.size, self.rounds, self.faulty) }
+        ensures ranges { (1 ≤ result.0) × (result.0 ≤ 16) × (1 ≤ result.1) × (result.1 ≤ 16) }
     {
         let Roll {
             size,

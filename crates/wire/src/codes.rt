@@ -20,7 +20,7 @@ impl From<MessageKind> for u16 {
 }
 
 /// The kind with a number: EST with 0, AUX with any other.
-// By name and no `TryFrom`, since every number has a kind.
+// By name, since `from` would not say that any other number is AUX.
 fn kind_with(number: u16) -> MessageKind
     ensures { result ≡ kind_with number }
 {
@@ -45,12 +45,12 @@ impl Message {
     }
 
     /// The message with a code. A number from 32,768 on counts from 0 again.
-    // By name and no `TryFrom`, since every number has a message.
+    // By name, since `from` would not say that a number too large counts from 0 again.
     pub fn with_code(code: u16) -> Message
         ensures { result ≡ message_with code }
     {
         let code = code % CODES;
-        // each number is below 32, so no cast loses anything
+        // each number is below 32, so `try_from` would have an error arm that never comes
         Message {
             sender: (code / 2048) as u8,
             receiver: (code / 128 % 16) as u8,

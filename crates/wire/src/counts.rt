@@ -30,7 +30,7 @@ fn smallest_from(counts: &[u16], from: usize) -> Option<u16>
     requires { (length counts.now ≡ 32768) × (from < 32768) }
     ensures { result ≡ smallest (count_in counts.now) (32768 - from) from }
 {
-    // there are 32,768 counts, so a place among them is a `u16`
+    // there are 32,768 counts, so `try_from` would have an error arm that never comes
     counts[from..]
         .iter()
         .position(|&count| count > 0)
