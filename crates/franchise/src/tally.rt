@@ -5,6 +5,7 @@ ghost use Rattle.franchise.specs.Polls.{tolerable as is_tolerable, believed as i
 /// How many votes may be faulty together.
 pub type Threshold = u16;
 
+/// The votes of a set beside all votes and the threshold.
 #[derive(Clone, Copy, PartialEq, Eq, Debug)]
 pub struct Tally {
     /// the votes of the set
@@ -15,24 +16,28 @@ pub struct Tally {
 }
 
 impl Tally {
+    /// Whether the set has at most T votes.
     pub fn tolerable(&self) -> bool
         ensures { result ≡ is_tolerable self.now }
     {
         self.votes <= u64::from(self.threshold)
     }
 
+    /// Whether it has at least T + 1.
     pub fn believed(&self) -> bool
         ensures { result ≡ is_believed self.now }
     {
         self.votes >= u64::from(self.threshold) + 1
     }
 
+    /// Whether it has at least 2 × T + 1.
     pub fn accepted(&self) -> bool
         ensures { result ≡ is_accepted self.now }
     {
         self.votes >= 2 * u64::from(self.threshold) + 1
     }
 
+    /// Whether it has at least all votes but T.
     pub fn closing(&self) -> bool
         ensures { result ≡ is_closing self.now }
     {

@@ -13,16 +13,6 @@ then_asked (x ∷ xs) ys e = go x.holds (then_asked xs ys) e where
   go true rest h = rest h
   go false rest h = absurd cc
 
--- one is
-pub still_refused : (xs ys : List Question) (r : Refusal) → first_no xs ≡ Some r → first_no (xs ++ ys) ≡ Some r
-still_refused [] ys r e = absurd cc
-still_refused (x ∷ xs) ys r e = go x.holds (still_refused xs ys r) e where
-  go :
-      (b : Bool) → (first_no xs ≡ Some r → first_no (xs ++ ys) ≡ Some r)
-      → cond b (first_no xs) (Some x.refusal) ≡ Some r → cond b (first_no (xs ++ ys)) (Some x.refusal) ≡ Some r
-  go true rest h = rest h
-  go false rest h = h
-
 -- what an answer says of the questions
 pub granted_none : {A : Type 0} (o : Option Refusal) (x z : A) → Ok z ≡ granted x o → (o ≡ None) × (z ≡ x)
 granted_none None x z e = (refl, cc)

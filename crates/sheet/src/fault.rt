@@ -73,19 +73,19 @@ impl From<RollFault> for SheetFault {
     }
 }
 
-impl From<UnknownWire> for SheetFault {
-    ghost from_gives = { λ _ r. r ≡ WireCase };
-
-    fn from(_: UnknownWire) -> SheetFault {
-        SheetFault::WireByte
-    }
-}
-
 impl From<FranchiseFault> for SheetFault {
     ghost from_gives = { λ f r. r ≡ FranchiseCase f };
 
     fn from(fault: FranchiseFault) -> SheetFault {
         SheetFault::Franchise(fault)
+    }
+}
+
+impl From<UnknownWire> for SheetFault {
+    ghost from_gives = { λ _ r. r ≡ WireCase };
+
+    fn from(_: UnknownWire) -> SheetFault {
+        SheetFault::WireByte
     }
 }
 
