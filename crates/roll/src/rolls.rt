@@ -1,7 +1,7 @@
 //! Rolls, and their two states. In neither can a roll be copied or let go: an open one is sealed, and a sealed one is spent.
 ghost use Rattle.std.specs.Prelude.{◌≡◌, ◌≤◌};
 
-use std::marker::{Model, PhantomData};
+use std::marker::PhantomData;
 
 /// Faulty processes are being named.
 pub struct Open;
@@ -10,12 +10,14 @@ pub struct Open;
 pub struct Sealed;
 
 /// How many processes and rounds a run has, and which processes are faulty.
+// A ghost field and no model, so that whoever has a roll, lent or owned, knows its ranges.
 pub struct Roll<State> {
     pub(crate) size: u8,
     pub(crate) rounds: u8,
     /// the faulty processes: process i has the bit of weight 2 to the power i
     pub(crate) faulty: u16,
     pub(crate) state: PhantomData<State>,
+    ghost ranges: { (1 ≤ size) × (size ≤ 16) × (1 ≤ rounds) × (rounds ≤ 16) },
 }
 
 /// A roll on which faulty processes are named.
@@ -23,18 +25,6 @@ pub type OpenRoll = Roll<Open>;
 
 /// A roll from which one run is begun.
 pub type SealedRoll = Roll<Sealed>;
-
-// Callers see the value alone, so each call that answers its numbers says that they are in range.
-impl<State> Model for Roll<State> {
-    ghost use Rattle.std.specs.Prelude.{◌≤◌};
-    ghost use Rattle.roll.specs.Views.{Terms};
-
-    ghost Value = { Terms };
-
-    ghost view = { λ r. record { size = r.size; rounds = r.rounds; faulty = r.faulty } };
-
-    ghost invariant = { λ r. (1 ≤ r.size) × (r.size ≤ 16) × (1 ≤ r.rounds) × (r.rounds ≤ 16) };
-}
 
 impl<State> Roll<State> {
     /// How many processes there are.

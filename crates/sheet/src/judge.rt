@@ -7,6 +7,7 @@ ghost use Rattle.franchise.specs.Polls.{votes as votes_poll};
 ghost use Rattle.franchise.specs.Tables.{table_poll};
 ghost use Rattle.franchise.specs.Refused.{votes_questions, refusal_of as franchise_refusal_of};
 ghost use Rattle.roll.specs.Refused.{refusal_of as roll_refusal_of};
+ghost use Rattle.roll.specs.Views.{terms};
 ghost use Rattle.sheet.specs.declared.fault.SheetFault.TheVariants.{Untolerable};
 ghost use Rattle.sheet.specs.Faults.{refusal_of};
 ghost use Rattle.sheet.specs.Headers.{header_questions, roll_questions, franchise_questions, naming_questions, roll_at, all_named};
@@ -36,7 +37,7 @@ impl Header {
 
     /// The sealed roll on which the header's faulty processes are named.
     fn roll(&self) -> Result<SealedRoll, RollFault>
-        ensures { told (λ r. r) roll_refusal_of result ≡ answer (roll_questions self.now) (roll_at self.now) }
+        ensures { told terms roll_refusal_of result ≡ answer (roll_questions self.now) (roll_at self.now) }
     {
         let mut roll = OpenRoll::open(self.size, self.rounds)?;
         let named = name_all(&mut roll, self.faulty);
@@ -86,7 +87,7 @@ fn first_votes(
 fn name_all(roll: &mut OpenRoll, faulty: u16) -> Result<(), RollFault>
     requires { roll.old.faulty ≡ 0 }
     ensures answer { told (λ x. x) roll_refusal_of result ≡ answer (naming_questions roll.old.size faulty) tt }
-    ensures after { OnOk result (roll.new ≡ all_named roll.old faulty) }
+    ensures after { OnOk result (terms roll.new ≡ all_named (terms roll.old) faulty) }
 {
     let members = Members::from_bits(faulty);
     // A filter would be no plainer: the number is the process that is named.

@@ -3,7 +3,7 @@ use Rattle.protocol.specs.declared.refusal.Refusal.{Refusal}
 use Rattle.protocol.specs.Refusals.{answer, first_no, granted}
 use Rattle.protocol.specs.Sets.{bits}
 use Rattle.protocol.proofs.Asking.{then_asked, granted_none}
-use Rattle.roll.specs.Views.{Terms}
+use Rattle.roll.specs.Views.{Terms, terms}
 use Rattle.sheet.specs.declared.header.Header.{Header}
 use Rattle.sheet.specs.Headers.{roll_questions, roll_at, franchise_questions, header_questions}
 use Rattle.sheet.proofs.header.Header.judge.Goals as goal
@@ -21,4 +21,4 @@ rest_judged h r a wire rolled answered =
 
 pub returns : goal.returns
 returns c =
-    rest_judged c.args.self.now c.in_ok-roll.roll _ (search rules) c.in_ok-roll.ensures c.judge-judged.ensures
+    rest_judged c.args.self.now (terms c.in_ok-roll.roll) _ (search rules) c.in_ok-roll.ensures c.judge-judged.ensures
