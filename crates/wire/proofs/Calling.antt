@@ -5,7 +5,7 @@ use Rattle.protocol.specs.Wires.{Wire, waiting, free}
 use Rattle.wire.specs.declared.fault.WireFault.{WireFault}
 use Rattle.wire.specs.declared.fault.WireFault.TheVariants.{Code, Full, Empty}
 use Rattle.wire.specs.Refused.{send_questions, take_questions, refusal_of}
-use Rattle.wire.proofs.Asking.{may_send, full, may_take}
+use Rattle.wire.proofs.Asking.{may_send, full, may_take, empty}
 
 -- a fault is known by its number
 fault_with : ℕ → WireFault
@@ -51,3 +51,8 @@ module _ {W : Type 0} (K : Wire W) (w t : W) where
     taken l =
         let yes = may_take (waiting (K.copies w)) l in
         (told_ok r (K.pick w k) (answers ∙ ap (granted (K.pick w k)) yes), after ∙ ap (changed w (K.rest w k)) yes)
+
+    pub not_taken : waiting (K.copies w) < 1 → (r ≡ Err Empty) × (t ≡ w)
+    not_taken l =
+        let no = empty (waiting (K.copies w)) l in
+        (told_err r Empty (answers ∙ ap (granted (K.pick w k)) no), after ∙ ap (changed w (K.rest w k)) no)

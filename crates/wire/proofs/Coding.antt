@@ -1,8 +1,10 @@
 -- The codes of messages.
 use Rattle.std.proofs.Common.{◌≡◌, ℕ, zero, suc, ◌%◌, ◌<◌, refl, ap, ◌∙◌, mod-eq_of_lt, arith}
+use std.HLevel.{prop→path_p}
+use denote.Struct.Props.{props}
 use Rattle.protocol.specs.Messages.{code, message_of, Writable}
 use Rattle.protocol.proofs.Codes.{code_of_message, code_below}
-use Rattle.wire.specs.declared.message.Message.{Message}
+use Rattle.wire.specs.declared.message.Message.{Message, ranges-type}
 use Rattle.wire.specs.declared.message.MessageKind.{MessageKind}
 use Rattle.wire.specs.declared.message.MessageKind.TheVariants.{Est, Aux}
 use Rattle.wire.specs.Messages.{number_of_kind, kind_with, in_numbers, code_of, message_with}
@@ -31,6 +33,19 @@ in_range m = record {
 -- so its code is below 32,768
 pub code_low : (m : Message) → code_of m < 32768
 code_low m = code_below (in_numbers m) (in_range m)
+
+-- messages that say the same are the same
+pub same_message :
+    (m n : Message) → m.sender ≡ n.sender → m.receiver ≡ n.receiver → m.kind ≡ n.kind → m.round ≡ n.round
+    → m.content ≡ n.content → m ≡ n
+same_message m n s d k r c = λ i. record {
+  sender = s i;
+  receiver = d i;
+  kind = k i;
+  round = r i;
+  content = c i;
+  ranges = prop→path_p (λ j. ranges-type (s j) (d j) (k j) (r j) (c j)) (hlevel props) m.ranges n.ranges i;
+}
 
 -- the code of the message with a code
 pub code_with : (x : ℕ) → x < 32768 → code_of (message_with x) ≡ x

@@ -1,12 +1,12 @@
 //! The count wire: a wire that keeps a count for each code.
 ghost use Rattle.std.specs.Prelude.{◌≡◌, ◌-◌, ◌<◌, ◌≤◌, length, ◌==◌};
-ghost use Rattle.protocol.specs.Wires.{WireLaws, waiting_below};
+ghost use Rattle.protocol.specs.Wires.{WireLaws, waiting as all_waiting, waiting_below};
 ghost use Rattle.wire.specs.CountWires.{cleared, count_in, counts_of, counts_kind};
 ghost use Rattle.wire.specs.PlainWires.{smallest, chosen as chosen_code};
 
 use super::codes::CODES;
 use super::fault::WireFault;
-use super::meaning::Wire;
+use super::meaning::{Wire, capped};
 
 /// How many copies of each code wait, and the number of places. In memory of another length nothing waits, and there is no place.
 // The caller lends the counts, so there may be more or fewer of them than codes.
@@ -55,6 +55,25 @@ impl<'a> CountWire<'a> {
         self.counts.len() == usize::from(CODES)
     }
 
+    /// How many messages there is room for.
+    pub fn places(&self) -> usize
+        ensures { result ≡ counts_kind.places self.now }
+    {
+        usize::from(if self.whole() { self.places } else { 0 })
+    }
+
+    /// How many messages wait.
+    pub fn held(&self) -> usize
+        ensures { result ≡ all_waiting (counts_kind.copies self.now) }
+    {
+        // a `u32` fits a `usize`, though no `From` says so
+        if self.whole() {
+            total(self.counts) as usize
+        } else {
+            0
+        }
+    }
+
     /// The smallest waiting code that is at least k mod 32,768, or the smallest of all.
     fn chosen(&self, k: u16) -> Option<u16>
         ensures { result ≡ chosen_code (counts_of self.now) k }
@@ -73,17 +92,12 @@ impl<'a> Wire for CountWire<'a> {
         ensures { WireLaws counts_kind }
     {}
 
-    fn places(&self) -> usize {
-        usize::from(if self.whole() { self.places } else { 0 })
+    fn waiting(&self) -> u16 {
+        capped(self.held())
     }
 
-    fn held(&self) -> usize {
-        // a `u32` fits a `usize`, though no `From` says so
-        if self.whole() {
-            total(self.counts) as usize
-        } else {
-            0
-        }
+    fn free(&self) -> u16 {
+        capped(self.places().saturating_sub(self.held()))
     }
 
     fn send(&mut self, code: u16) -> Result<(), WireFault> {

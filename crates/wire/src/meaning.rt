@@ -16,13 +16,14 @@ pub trait Wire {
     fn keeps_laws()
         ensures { WireLaws kind };
 
-    /// How many copies there is room for.
-    fn places(&self) -> usize
-        ensures { result ≡ kind.places self.now };
+    // Each kind answers both for itself, since all its places and copies need not fit an integer.
+    /// How many messages wait, at most 65,535.
+    fn waiting(&self) -> u16
+        ensures { result ≡ capped (all_waiting (kind.copies self.now)) };
 
-    /// How many copies wait.
-    fn held(&self) -> usize
-        ensures { result ≡ all_waiting (kind.copies self.now) };
+    /// How many places are free, at most 65,535.
+    fn free(&self) -> u16
+        ensures { result ≡ capped (free_places kind self.now) };
 
     /// Adds one copy of a code.
     fn send(&mut self, code: u16) -> Result<(), WireFault>
@@ -35,22 +36,6 @@ pub trait Wire {
         ensures answer { told (λ x. x) refusal_of result ≡ answer (take_questions (all_waiting (kind.copies self.old))) (kind.pick self.old k) }
         ensures after { self.new ≡ leaves (take_questions (all_waiting (kind.copies self.old))) self.old (kind.rest self.old k) };
 
-    /// How many messages wait, at most 65,535.
-    fn waiting(&self) -> u16
-        ensures { result ≡ capped (all_waiting (kind.copies self.now)) }
-    {
-        // `as`, since `try_from` would have an error arm that never comes
-        self.held().min(65535) as u16
-    }
-
-    /// How many places are free, at most 65,535.
-    fn free(&self) -> u16
-        ensures { result ≡ capped (free_places kind self.now) }
-    {
-        // `as`, for the same reason
-        self.places().saturating_sub(self.held()).min(65535) as u16
-    }
-
     /// Whether a send of a code would be accepted.
     fn may_send(&self, code: u16) -> Result<(), WireFault>
         ensures { told (λ x. x) refusal_of result ≡ answer (send_questions code (free_places kind self.now)) tt }
@@ -58,9 +43,17 @@ pub trait Wire {
         if code >= CODES {
             return Err(WireFault::Code);
         }
-        if self.held() >= self.places() {
+        if self.free() == 0 {
             return Err(WireFault::Full);
         }
         Ok(())
     }
+}
+
+/// A number as a wire answers it: any above 65,535 as 65,535.
+pub(crate) fn capped(n: usize) -> u16
+    ensures { result ≡ capped n }
+{
+    // `as`, since `try_from` would have an error arm that never comes
+    n.min(65535) as u16
 }
