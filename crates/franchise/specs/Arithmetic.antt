@@ -1,5 +1,6 @@
 -- The votes of sets. Every lemma is of any votes w.
-use Rattle.std.proofs.Common.{◌≡◌, ℕ, zero, suc, ◌+◌, ◌<◌, ◌≤◌, Bool, true, false, cond, ◌&&◌, ◌⊎◌, refl, inl, inr, arith}
+use Rattle.std.proofs.Common.{◌≡◌, ℕ, zero, suc, ◌+◌, ◌<◌, ◌≤◌, Bool, true, false, cond, ◌&&◌, ◌⊎◌, refl, inl, inr, add-one, arith}
+use Rattle.std.proofs.lemmas.Bool.{cond-true, cond-false}
 use Rattle.protocol.specs.Sets.{Set, empty}
 use Rattle.franchise.specs.Weights.{weight, whole, one_each}
 
@@ -23,6 +24,13 @@ module _ (w : ℕ → ℕ) where
   pub none : (n : ℕ) → weight w empty n ≡ 0
   none zero = refl
   none (suc n) = let h = none n in omega arith
+
+  -- one process more, which is in the set or not
+  pub weight_yes : (s : Set) (i : ℕ) → s i ≡ true → weight w s (i + 1) ≡ weight w s i + w i
+  weight_yes s i e = let c = cond-true (s i) (w i) 0 e in rw add-one (omega arith)
+
+  pub weight_no : (s : Set) (i : ℕ) → s i ≡ false → weight w s (i + 1) ≡ weight w s i
+  weight_no s i e = let c = cond-false (s i) (w i) 0 e in rw add-one (omega arith)
 
   -- a set within two others has at most their votes
   pub cover :

@@ -44,7 +44,14 @@ impl Members {
     pub fn count_below(&self, end: u8) -> usize
         ensures { result ≡ count_by (set_of self.now) (range_with_len 0 end) }
     {
-        (0..end).filter(|process| self.contains(*process)).count()
+        let mut count = 0;
+        // A loop, since `filter` and `count` make the answers of heads take twelve times as long.
+        for process in 0..end {
+            if self.contains(process) {
+                count += 1;
+            }
+        }
+        count
     }
 
     /// Puts a process into the set. A process from 16 on changes nothing.
