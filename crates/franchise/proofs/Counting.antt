@@ -1,5 +1,5 @@
 -- Sums and counts are the votes of sets.
-use Rattle.std.proofs.Common.{◌≡◌, ℕ, zero, suc, ◌+◌, ◌≤◌, true, false, cond, List, length, take, refl, sym, ap, ◌∙◌, arith}
+use Rattle.std.proofs.Common.{◌≡◌, ℕ, zero, suc, ◌+◌, ◌≤◌, cond, List, map, length, take, refl, sym, ap, ◌∙◌, arith}
 use Rattle.std.specs.List.{count_by, sum, range_with_len}
 use Rattle.std.proofs.lemmas.List.{take_all, map-id}
 use Rattle.std.proofs.lemmas.List.FromFn.{sum_by-map-range_with_len_more}
@@ -20,23 +20,13 @@ sum_front vs (suc n) l =
 pub sum_whole : (vs : List ℕ) → sum vs ≡ whole (listed vs) (length vs)
 sum_whole vs = ap sum (sym (take_all (length vs) vs (omega arith))) ∙ sum_front vs (length vs) (omega arith)
 
--- one process more, which is in the set or not
-pub counted_next : (s : Set) (n : ℕ) → count_by s (range_with_len 0 (n + 1)) ≡ count_by s (range_with_len 0 n) + cond (s n) 1 0
-counted_next s n =
-    let more = sum_by-map-range_with_len_more (λ i. cond (s i) 1 0) (λ (x : ℕ). x) 0 n n (omega arith) in
-    ap (count_by s) (sym (map-id (range_with_len 0 (n + 1)))) ∙ more
-    ∙ ap (λ xs. count_by s xs + cond (s n) 1 0) (map-id (range_with_len 0 n))
-
-pub counted_yes : (s : Set) (n : ℕ) → s n ≡ true → count_by s (range_with_len 0 (n + 1)) ≡ count_by s (range_with_len 0 n) + 1
-counted_yes s n e = counted_next s n ∙ ap (λ b. count_by s (range_with_len 0 n) + cond b 1 0) e
-
-pub counted_no : (s : Set) (n : ℕ) → s n ≡ false → count_by s (range_with_len 0 (n + 1)) ≡ count_by s (range_with_len 0 n)
-counted_no s n e = let more = counted_next s n ∙ ap (λ b. count_by s (range_with_len 0 n) + cond b 1 0) e in omega arith
-
 -- with one vote each, a set has as many votes as members
 pub one_vote_each : (s : Set) (n : ℕ) → count_by s (range_with_len 0 n) ≡ weight one_each s n
-one_vote_each s zero = refl
-one_vote_each s (suc n) =
-    let before = one_vote_each s n in
-    let e : suc n ≡ n + 1 = omega arith in
-    ap (λ k. count_by s (range_with_len 0 k)) e ∙ counted_next s n ∙ omega arith
+one_vote_each s n = ap (count_by s) (sym (map-id (range_with_len 0 n))) ∙ go n where
+  go : (n : ℕ) → count_by s (map (λ (x : ℕ). x) (range_with_len 0 n)) ≡ weight one_each s n
+  go zero = refl
+  go (suc n) =
+      let before = go n in
+      let more = sum_by-map-range_with_len_more (λ i. cond (s i) 1 0) (λ (x : ℕ). x) 0 n n (omega arith) in
+      let e : suc n ≡ n + 1 = omega arith in
+      ap (λ k. count_by s (map (λ (x : ℕ). x) (range_with_len 0 k))) e ∙ more ∙ omega arith
